@@ -1,0 +1,2 @@
+mod Copied
+pub mod Lines

@@ -1,0 +1,5 @@
+use Rattle.lines.proofs.Lines.{kept}
+use Rattle.lines.proofs.laws.kept.Needs as need
+
+pub returns : need.returns
+returns c = kept

@@ -1,0 +1,4 @@
+mod Agreement
+pub mod EncodingLaws
+pub mod RowLaws
+pub mod TextLaws
