@@ -26,5 +26,6 @@ abbrev pub inBlocks : ℕ → List (ℕ × ℕ) → Bool
 inBlocks c [] = false
 inBlocks c (block ∷ blocks) = (leb (block .0) c && leb c (block .1)) || inBlocks c blocks
 
+-- a character of one of the blocks weighs 2, and any other code point 1
 abbrev pub wideTwice : ℕ → ℕ
 wideTwice c = cond (inBlocks c wideBlocks) 2 (cond (leb c 1114111) 1 0)

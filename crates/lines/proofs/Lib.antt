@@ -1,2 +1,2 @@
 mod Copied
-pub mod Lines
+pub mod LineLaws

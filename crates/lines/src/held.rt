@@ -1,4 +1,4 @@
-// The line that is being read. Its methods are in the crate's root: their contracts cite a definition that names this type.
+//! The line that is being read. Its methods are in the crate's root: their contracts cite a definition that names this type.
 ghost use mathlib.Core.Path.{_≡_};
 ghost use Prim.Native.Nat.{_≤_};
 ghost use lib.ListN.{length};

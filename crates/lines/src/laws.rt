@@ -1,4 +1,4 @@
-// The laws of cutting a stream into lines. Each function's contract is a law, and its call does nothing.
+//! The laws of cutting a stream into lines. Each function's contract is a law, and its call does nothing.
 ghost use Rattle.lines.specs.Lines.{ByLength, Cuts, Kept, Pieces};
 
 /// However the bytes arrive in pieces, the lines are the same.

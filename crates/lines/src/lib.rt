@@ -1,8 +1,8 @@
-// Cuts a stream of bytes that arrives in pieces into lines.
-//
-// A line ends before byte 10, which is not part of it. What stands after the last byte 10 is a line too, if it has at
-// least one byte. A caller goes through a piece line by line: up to the line's length it extends the line that it
-// holds, and where the piece goes on, the line has ended there, and the next begins after its byte 10.
+//! Cuts a stream of bytes that arrives in pieces into lines.
+//!
+//! A line ends before byte 10, which is not part of it. What stands after the last byte 10 is a line too, if it has at
+//! least one byte. A caller goes through a piece line by line: up to the line's length it extends the line that it
+//! holds, and where the piece goes on, the line has ended there, and the next begins after its byte 10.
 ghost use mathlib.Core.List.{[], _++_};
 ghost use mathlib.Core.Path.{_≡_};
 ghost use Prim.Native.Nat.{_≤_};

@@ -8,12 +8,10 @@ use lib.Dec.{ltb}
 use lib.ListN.{length, take, getD, set}
 use Rattle.std.proofs.shelf.Lists.{reverse-append, map-more, map-push, take-more-set, length-map, length-take-le}
 use Rattle.std.proofs.shelf.Tests.{cond-true, cond-false, cond-both, le-leb, lt-leb, lt-ltb, le-ltb, or-left, or-right, or-from}
-use Rattle.std.specs.declared.result.Result.{Result}
 use Rattle.std.specs.declared.result.Result.the-variants.{Ok, Err}
 use Rattle.std.specs.shelf.Lists.{All}
 use Rattle.text.specs.declared.rows.Row.{Row}
 use Rattle.text.specs.Rows.{Figures, figures, holds, firstHolding, rowAnswer, LastDecides}
-use Rattle.text.specs.declared.row_table.RowFault.{RowFault}
 use Rattle.text.specs.declared.row_table.RowFault.the-variants.{TableFull, BadRange, TooHeavy}
 
 -- with one row more, that row decides where it holds the code point

@@ -20,6 +20,7 @@ pub record Figures : Type 0 where
   pub last : ℕ
   pub weight : ℕ
 
+-- the figures of a row as the table holds it
 abbrev pub figures : Row → Figures
 figures row = record { first = row .first; last = row .last; weight = row .weight }
 
@@ -27,6 +28,7 @@ figures row = record { first = row .first; last = row .last; weight = row .weigh
 abbrev pub rowsOf : RowTable → List Figures
 rowsOf table = map figures (take (table .len) (table .rows))
 
+-- whether c lies from the row's first code point to its last
 abbrev pub holds : ℕ → Figures → Bool
 holds c row = leb (row .first) c && leb c (row .last)
 
@@ -51,6 +53,7 @@ abbrev pub rowsAfter : {T E : Type 0} → Result T E → List Figures → ℕ �
 rowsAfter (Ok _) rows first last weight = rows ++ record { first = first; last = last; weight = weight } ∷ []
 rowsAfter (Err _) rows first last weight = rows
 
+-- the number of a refusal
 abbrev pub rowFaultNumber : RowFault → ℕ
 rowFaultNumber TableFull = 19
 rowFaultNumber (BadRange first last) = 20

@@ -5,6 +5,7 @@ use Rattle.text.specs.Weights.{blankCounting, blankFree}
 use Rattle.text.specs.declared.supplied.SuppliedRule.{SuppliedRule}
 use Rattle.text.specs.declared.supplied.SuppliedRule.the-variants.{BlankCounting, BlankFree, RowTable}
 
+-- the weight by the rule that was chosen
 abbrev pub suppliedWeight : SuppliedRule → ℕ → ℕ
 suppliedWeight (BlankCounting rule) c = blankCounting c
 suppliedWeight (BlankFree rule) c = blankFree c

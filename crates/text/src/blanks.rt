@@ -3,6 +3,7 @@ ghost use Rattle.text.specs.Weights.{blankCounting, blankFree};
 use crate::rules::CountingRule;
 use crate::rules::LAST_CODE_POINT;
 
+/// The three blanks.
 const SPACE: u32 = 0x20;
 
 const NO_BREAK_SPACE: u32 = 0xA0;

@@ -5,31 +5,40 @@ ghost use Rattle.text.specs.Characters.{Reads, ReadsExactly, OneBegins};
 ghost use Rattle.text.specs.Encoding.{Agrees};
 use crate::faults::TextFault;
 
-/// The bits that mark the first byte of a sequence of two, three and four bytes.
+/// The first byte of a sequence of two bytes has the bits 110 in front,
 const LEAD_OF_TWO: u8 = 0b1100_0000;
 
+/// of three bytes 1110,
 const LEAD_OF_THREE: u8 = 0b1110_0000;
 
+/// and of four bytes 11110.
 const LEAD_OF_FOUR: u8 = 0b1111_0000;
 
-/// Every later byte has the bits 10 and then six of the code point.
+/// A later byte has the bits 10 in front, and then six bits of the code point: the least later byte,
 const FIRST_LATER: u8 = 0b1000_0000;
 
+/// and the greatest.
 const LAST_LATER: u8 = 0b1011_1111;
 
-/// The least code point of each length: a sequence that gives a smaller one is overlong.
+/// The least code point of two bytes: a sequence that spells a smaller one is overlong.
 const LEAST_OF_TWO: u32 = 0x80;
 
+/// The least code point of three bytes.
 const LEAST_OF_THREE: u32 = 0x800;
 
+/// The least code point of four bytes.
 const LEAST_OF_FOUR: u32 = 0x1_0000;
 
+/// The surrogates are code points, and no scalar values: the first of them,
 const FIRST_SURROGATE: u32 = 0xD800;
 
+/// and the last.
 const LAST_SURROGATE: u32 = 0xDFFF;
 
+/// The last scalar value.
 const LAST_SCALAR: u32 = 0x10_FFFF;
 
+/// The fault lies where the reading begins.
 const MALFORMED: TextFault = TextFault::Malformed { at: 0 };
 
 /// The character that begins `rest`, as its code point and its number of bytes.

@@ -42,6 +42,7 @@ pub fn weigh_text<R: CountingRule>(rule: &R, text: &[u8]) -> Result<u64, TextFau
 pub fn check_text(text: &[u8]) -> Result<(), TextFault>
     ensures { λ r. ⌜ Answered (λ _. WellFormed (now (text .entry))) (now (text .entry)) r ⌝ }
 {
+    // Weighing reads the text to its end, under whichever rule.
     match weigh_text(&BlankCounting, text) {
         Ok(_) => Ok(()),
         Err(fault) => Err(fault),

@@ -7,7 +7,7 @@ use Prim.Native.Nat.{ℕ, _+_, _<_, _≤_}
 use native.Mathlib.Omega.{arith}
 use lib.Dec.{eqb}
 use lib.ListN.{length, take, drop}
-use Rattle.lines.proofs.Lines.{by-length, kept, pieces}
+use Rattle.lines.proofs.LineLaws.{by-length, kept, pieces}
 use Rattle.lines.specs.Lines.{lineLength, ended, unended, lastLine}
 use Rattle.std.proofs.shelf.Lists.{take-all, length-take-le}
 use Rattle.std.proofs.shelf.Tests.{cases-lt, eq-eqb, eqb-true, true≢false}

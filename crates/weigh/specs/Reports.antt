@@ -43,6 +43,7 @@ weightsText number w = decimal number ++ (codes ": " ++ (decimal (w .counting) +
 abbrev pub refusalText : ℕ → TextFault → List ℕ
 refusalText number fault = decimal number ++ (codes ": refused " ++ (decimal (textFaultNumber fault) ++ (codes " at " ++ (decimal (textFaultPlace fault) ++ codes "\n"))))
 
+-- what is printed of the line `number`
 abbrev pub reportText : ℕ → Result Weights TextFault → List ℕ
 reportText number (Ok w) = weightsText number w
 reportText number (Err fault) = refusalText number fault

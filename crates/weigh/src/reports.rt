@@ -63,6 +63,7 @@ fn report_refusal(out: &mut String, number: u64, fault: TextFault) -> fmt::Resul
 }
 
 impl Tally {
+    /// A tally of no lines.
     pub fn new() -> Tally
         ensures { λ r. ⌜ r ≡ record { weighed = 0; counting = 0; free = 0; refused = 0 } ⌝ }
     {

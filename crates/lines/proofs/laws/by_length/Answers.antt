@@ -1,4 +1,4 @@
-use Rattle.lines.proofs.Lines.{by-length}
+use Rattle.lines.proofs.LineLaws.{by-length}
 use Rattle.lines.proofs.laws.by_length.Needs as need
 
 pub returns : need.returns

@@ -1,4 +1,4 @@
-use Rattle.lines.proofs.Lines.{cuts}
+use Rattle.lines.proofs.LineLaws.{cuts}
 use Rattle.lines.proofs.laws.cuts.Needs as need
 
 pub returns : need.returns

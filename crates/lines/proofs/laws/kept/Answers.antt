@@ -1,4 +1,4 @@
-use Rattle.lines.proofs.Lines.{kept}
+use Rattle.lines.proofs.LineLaws.{kept}
 use Rattle.lines.proofs.laws.kept.Needs as need
 
 pub returns : need.returns

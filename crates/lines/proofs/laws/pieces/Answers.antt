@@ -1,4 +1,4 @@
-use Rattle.lines.proofs.Lines.{pieces}
+use Rattle.lines.proofs.LineLaws.{pieces}
 use Rattle.lines.proofs.laws.pieces.Needs as need
 
 pub returns : need.returns
