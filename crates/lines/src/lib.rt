@@ -64,7 +64,6 @@ impl<const LIMIT: usize> HeldLine<LIMIT> {
         let start = self.len;
         let more = piece.len().min(LIMIT - start);
         // Byte by byte, since the check does not follow an array of any length once it is lent as a slice.
-        // The compiler turns the loop into one copy.
         for i in 0..more {
             self.bytes[start + i] = piece[i];
         }

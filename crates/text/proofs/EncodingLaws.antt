@@ -12,6 +12,7 @@ use Rattle.std.specs.declared.result.Result.the-variants.{Ok, Err}
 use Rattle.text.specs.Characters.{Begins, Reads, ReadsExactly, OneBegins}
 use Rattle.text.specs.Encoding.{later, encode}
 use Rattle.text.specs.declared.faults.TextFault.{TextFault}
+use Rattle.text.specs.declared.faults.TextFault.the-variants.{Malformed}
 
 pub encode-one : (c : ℕ) → c ≤ 0x7F → encode c ≡ c ∷ []
 encode-one c h = cond-true _ _ _ (le-leb c 0x7F h)
@@ -159,6 +160,10 @@ read-four a b c d v rest ha hb hc hd above below e = (
   shape-begins (a ∷ b ∷ c ∷ d ∷ rest) v (inr (inr (inr (record { above = above; below = below; long = omega arith; byte0 = omega arith; byte1 = omega arith; byte2 = omega arith; byte3 = omega arith })))),
   sym (ap length (encode-four v above)),
 )
+
+-- where no character has the bytes of s, reading refuses
+pub read-none : (s : List ℕ) → ((c : ℕ) → Shape s c → ⊥) → Reads s (Err (Malformed 0))
+read-none s none = (refl, λ c b. none c (begins-shape s c b))
 
 abbrev codePoint : Result (ℕ × ℕ) TextFault → ℕ
 codePoint (Ok p) = p .0

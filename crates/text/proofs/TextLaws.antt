@@ -7,8 +7,9 @@ use Prim.Native.Nat.{ℕ, zero, suc, _+_, _-_, _*_, _<_, _≤_}
 use native.Mathlib.Omega.{arith}
 use lib.Dec.{leb, ltb, eqb}
 use lib.ListN.{length, drop, length-append, length-drop}
+use Rattle.std.proofs.shelf.Elements.{all-push}
 use Rattle.std.proofs.shelf.Fronts.{front-rest}
-use Rattle.std.proofs.shelf.Lists.{append-cancel-left, drop-all, nil-from-length}
+use Rattle.std.proofs.shelf.Lists.{append-cancel-left, drop-all, joined-more, nil-from-length}
 use Rattle.std.proofs.shelf.Sums.{sumBy-push}
 use Rattle.std.proofs.shelf.Tests.{cond-true, cond-false, cases-lt, cases-eq, and-parts, and-from, eqb-true, eq-eqb, ne-eqb, lt-ltb, le-ltb, false≢true}
 use Rattle.std.proofs.shelf.Ways.{tells}
@@ -130,10 +131,7 @@ reading-cons s c cs rest b h =
       stops = h .stops;
     }
 
--- what is left of s after its characters
-abbrev restOf : List ℕ → List ℕ → List ℕ
-restOf s cs = drop (length (encodeAll cs)) s
-
+-- one character more of those that the definition finds, or the end of them
 step : (n : ℕ) (s : List ℕ) (r : Option ℕ) → Cases r (NoneBegins s) (Begins s) → length s ≤ suc n
     → ((t : List ℕ) → length t ≤ n → (rest : List ℕ) × Reading t (charactersUpTo n t) rest)
     → (rest : List ℕ) × Reading s (elim r [ Some c ↦ c ∷ charactersUpTo n (drop (length (encode c)) s) | None ↦ [] ]) rest
@@ -225,40 +223,27 @@ pub record Sofar (w : ℕ → ℕ) (s : List ℕ) (at total : ℕ) : Type 0 wher
   pub within : at ≤ length s
   pub few : total ≤ 4 * at
 
-pub sofar-none : (w : ℕ → ℕ) (s : List ℕ) → Sofar w s 0 0
-sofar-none w s = record { cs = []; scalars = tt; split = refl; long = refl; sum = refl; within = omega arith; few = omega arith }
-
-encode-push : (cs : List ℕ) (c : ℕ) → encodeAll (cs ++ c ∷ []) ≡ encodeAll cs ++ encode c
-encode-push [] c = append-nil (encode c)
-encode-push (d ∷ cs) c = ap (λ l. encode d ++ l) (encode-push cs c) ∙ sym (append-assoc (encode d) (encodeAll cs) (encode c))
-
-scalars-push : (cs : List ℕ) (c : ℕ) → All Scalar cs → Scalar c → All Scalar (cs ++ c ∷ [])
-scalars-push [] c h s = (s, tt)
-scalars-push (d ∷ cs) c h s = (h .0, scalars-push cs c (h .1) s)
-
 -- one character more
-pub sofar-more : (w : ℕ → ℕ) (s : List ℕ) (at total c n : ℕ) → w c ≤ 4 → Sofar w s at total → Begins (drop at s) c → n ≡ length (encode c) → Sofar w s (at + n) (total + w c) × (0 < n)
+pub sofar-more : (w : ℕ → ℕ) (s : List ℕ) (at total c n : ℕ) → w c ≤ 4 → Sofar w s at total → Begins (drop at s) c → n ≡ length (encode c) → Sofar w s (at + n) (total + w c)
 sofar-more w s at total c n small h b e =
     let t : List ℕ = b .1 .0 in
     let some = encode-long c (b .0) in
     let room : length (drop at s) ≡ length (encode c) + length t = ap length (b .1 .1) ∙ length-append (encode c) t in
-    let more = encode-push (h .cs) c in
+    let more : encodeAll (h .cs) ++ encode c ≡ encodeAll (h .cs ++ c ∷ []) = joined-more encode [] (h .cs) c in
     let split : s ≡ encodeAll (h .cs ++ c ∷ []) ++ t =
-    h .split ∙ ap (λ l. encodeAll (h .cs) ++ l) (b .1 .1) ∙ sym (append-assoc (encodeAll (h .cs)) (encode c) t) ∙ ap (λ l. l ++ t) (sym more) in
+    h .split ∙ ap (λ l. encodeAll (h .cs) ++ l) (b .1 .1) ∙ sym (append-assoc (encodeAll (h .cs)) (encode c) t) ∙ ap (λ l. l ++ t) more in
     let long : at + n ≡ length (encodeAll (h .cs ++ c ∷ [])) =
-    (λ i. h .long i + e i) ∙ sym (length-append (encodeAll (h .cs)) (encode c)) ∙ ap length (sym more) in
-    let left : drop (at + n) s ≡ t = ap (λ k. drop k s) long ∙ front-rest s (encodeAll (h .cs ++ c ∷ [])) t split in (
-      record {
-        cs = h .cs ++ c ∷ [];
-        scalars = scalars-push (h .cs) c (h .scalars) (b .0);
-        split = split ∙ ap (λ l. encodeAll (h .cs ++ c ∷ []) ++ l) (sym left);
-        long = long;
-        sum = ap (λ k. k + w c) (h .sum) ∙ sym (sumBy-push w (h .cs) c);
-        within = omega (arith, length-drop at s, h .within);
-        few = omega (arith, h .few);
-      },
-      omega arith,
-    )
+    (λ i. h .long i + e i) ∙ sym (length-append (encodeAll (h .cs)) (encode c)) ∙ ap length more in
+    let left : drop (at + n) s ≡ t = ap (λ k. drop k s) long ∙ front-rest s (encodeAll (h .cs ++ c ∷ [])) t split in
+    record {
+      cs = h .cs ++ c ∷ [];
+      scalars = all-push Scalar (h .cs) c (h .scalars) (b .0);
+      split = split ∙ ap (λ l. encodeAll (h .cs ++ c ∷ []) ++ l) (sym left);
+      long = long;
+      sum = ap (λ k. k + w c) (h .sum) ∙ sym (sumBy-push w (h .cs) c);
+      within = omega (arith, length-drop at s, h .within);
+      few = omega (arith, h .few);
+    }
 
 pub sofar-all : (w : ℕ → ℕ) (s : List ℕ) (at total : ℕ) → length s ≤ 240 → Sofar w s at total → length s ≤ at → Verdict (Weighs w s) s (Ok total)
 sofar-all w s at total short h end =
@@ -294,7 +279,3 @@ module _ (w : ℕ → ℕ) (s : List ℕ) where
 -- a text that is too long is refused unread
 pub weighed-too-long : (w : ℕ → ℕ) (s : List ℕ) → 240 < length s → weighed w s ≡ Err TooLong
 weighed-too-long w s long = sym (verdict-weighed w s (Err TooLong) long)
-
--- and a spelled one weighs what its characters do
-pub weighed-spelled : (w : ℕ → ℕ) (s cs : List ℕ) → length s ≤ 240 → Spells cs s → weighed w s ≡ Ok (sumBy w cs)
-weighed-spelled w s cs short h = sym (verdict-weighed w s (Ok (sumBy w cs)) (short, (cs, h, refl)))

@@ -3,11 +3,13 @@ ghost use Rattle.text.specs.Weights.{blankCounting, blankFree};
 use crate::rules::CountingRule;
 use crate::rules::LAST_CODE_POINT;
 
-/// The three blanks.
+/// The blank U+0020.
 const SPACE: u32 = 0x20;
 
+/// The blank U+00A0.
 const NO_BREAK_SPACE: u32 = 0xA0;
 
+/// The blank U+0009.
 const TAB: u32 = 0x09;
 
 /// Every code point weighs 1, blanks included.

@@ -26,7 +26,7 @@ loop-at-again g c =
     let read = c .in-Ok .ensures tt .reads in
     let begins = subst (λ (l : List ℕ). Begins l code) (take-rest s at) (read .0) in
     let more = sofar-more w s at total code (c .in-Ok .bytes) (g .R·CountingRule·met .small (c .args .rule .now) code) (c .loop-at .inv) begins (read .1) in
-    subst (λ (v : ℕ). Sofar w s (at + c .in-Ok .bytes) (total + v)) (sym (c .from-total .ensures ∙ c .weight-of .ensures .value)) (more .0)
+    subst (λ (v : ℕ). Sofar w s (at + c .in-Ok .bytes) (total + v)) (sym (c .from-total .ensures ∙ c .weight-of .ensures .value)) more
 
 pub returns-in-rest : need.returns-in-rest
 returns-in-rest g c =
