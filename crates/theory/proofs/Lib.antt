@@ -1,0 +1,14 @@
+pub mod BatchLaws
+pub mod BracketLaws
+pub mod DropLaws
+pub mod FormLaws
+pub mod FullLaws
+pub mod GroupLaws
+pub mod KeepLaws
+pub mod LevelLaws
+pub mod MergeLaws
+pub mod PushLaws
+pub mod SizeLaws
+pub mod SoundLaws
+pub mod TopLaws
+pub mod Views

@@ -1,0 +1,5 @@
+pub mod Arrivals
+pub mod Buckets
+pub mod Levels
+pub mod Sound
+pub mod Theorems
