@@ -15,7 +15,7 @@ use Rattle.std.proofs.shelf.Tests.{cases-lt, cond-both, cond-true, eqb-false, l
 use Rattle.std.specs.shelf.Lists.{All}
 use Rattle.theory.proofs.BracketLaws.{error-bound}
 use Rattle.theory.proofs.GroupLaws.{groups, groups-stand}
-use Rattle.theory.proofs.KeepLaws.{at-levels, dropping-keeps, good-from, good-inserts, insertions-by-levels, insertions-keep, own, own-below, own-fall, own-keeps}
+use Rattle.theory.proofs.KeepLaws.{at-levels, dropping-keeps, good-from, good-inserts, insertions-by-levels, insertions-keep, own-below, own-fall, own-keeps, ownArrivals}
 use Rattle.theory.proofs.PushLaws.{all-canon}
 use Rattle.theory.proofs.SizeLaws.{all-total, few-levels, high-total, last-flat, last-row, low-total}
 use Rattle.theory.proofs.SoundLaws.{formed-says, sound-from, sound-says}
@@ -68,9 +68,9 @@ flat-small : (m e : ℕ) (levels : List (List ℕ)) → e + length levels ≤ m 
 flat-small m e [] h = tt
 flat-small m e (ss ∷ rest) h = row-small m e (omega arith) ss (flat (suc e) rest) (flat-small m (suc e) rest (omega arith))
 
-own-all : (Q : ℕ → Type 0) (bs : List Entry) → All (λ b. Q (b .stamp)) bs → (k : ℕ) → k < length (own bs) → Q (getD (own bs) k 0)
+own-all : (Q : ℕ → Type 0) (bs : List Entry) → All (λ b. Q (b .stamp)) bs → (k : ℕ) → k < length (ownArrivals bs) → Q (getD (ownArrivals bs) k 0)
 own-all Q [] e k lt = absurd (omega arith)
-own-all Q (x ∷ bs) e k lt = all-copies Q (size x) (x .stamp) (own bs) (e .0) (own-all Q bs (e .1)) k lt
+own-all Q (x ∷ bs) e k lt = all-copies Q (size x) (x .stamp) (ownArrivals bs) (e .0) (own-all Q bs (e .1)) k lt
 
 pub within-live : (N t : ℕ) (bs : List Entry) → All (λ b. t < b .stamp + N) (within N t bs)
 within-live N t bs = all-weaker (λ b. ltb t (b .stamp + N) ≡ true) (λ b. t < b .stamp + N) (λ b q. ltb-true t (b .stamp + N) q) (within N t bs) (kept-by-passes (λ b. ltb t (b .stamp + N)) bs)
@@ -96,8 +96,8 @@ all-stamps P (b ∷ bs) h = (h .0, all-stamps P bs (h .1))
 pub inserted-live : (l N t v : ℕ) (bs : List Entry) → 1 ≤ l → 0 < N → Formed l bs → Below t (stamps bs) → All (λ b. t < b .stamp + N) bs
     → All (λ b. t < b .stamp + N) (insertions l v t bs)
 inserted-live l N t v bs one pos f b live =
-    let good = good-inserts l N t v t one (own bs) bs (own-below t bs b) (own-fall bs (f .falling)) (good-from l N t (own bs) bs (own-keeps l N t bs f b)) in
-    stamps-from (λ u. t < u + N) N t (replicate v t ++ own bs) (all-copies (λ u. t < u + N) v t (own bs) (omega arith) (own-all (λ u. t < u + N) bs live)) 0 (insertions l v t bs) (good .1)
+    let good = good-inserts l N t v t one (ownArrivals bs) bs (own-below t bs b) (own-fall bs (f .falling)) (good-from l N t (ownArrivals bs) bs (own-keeps l N t bs f b)) in
+    stamps-from (λ u. t < u + N) N t (replicate v t ++ ownArrivals bs) (all-copies (λ u. t < u + N) v t (ownArrivals bs) (omega arith) (own-all (λ u. t < u + N) bs live)) 0 (insertions l v t bs) (good .1)
 
 -- v arrivals as one batch: the levels they leave, and the sum of the sizes
 pub record Batch (l t v : ℕ) (bs : List Entry) : Type 0 where
@@ -130,9 +130,9 @@ pub insertion-sound : (l r N own t v : ℕ) (bs : List Entry) → 1 ≤ l → 0 
     → (soundBuckets l r N t (insertions l v t (within N t bs)) ≡ true) × (length (insertions l v t (within N t bs)) ≤ (l + 1) * (r + 1))
 insertion-sound l r N early t v bs one pos le h fits =
     let s = sound-says l r N early bs h in
-    let kept = dropping-keeps l N early t (own bs) bs le (own-keeps l N early bs (s .form) (s .arrived)) in
+    let kept = dropping-keeps l N early t (ownArrivals bs) bs le (own-keeps l N early bs (s .form) (s .arrived)) in
     let facts = formed-says l t (within N t bs) (kept .formed) in
-    let after = insertions-keep l N t v (own bs) (within N t bs) one kept in
+    let after = insertions-keep l N t v (ownArrivals bs) (within N t bs) one kept in
     let formed-after = formed-says l t (insertions l v t (within N t bs)) (after .formed) in
     let b = batch-of l t v (within N t bs) one (kept .formed) in
     let room = levels-room l r (b .levels) (b .canonical) (omega (arith, b .sizes)) in

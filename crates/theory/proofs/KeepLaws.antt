@@ -118,28 +118,28 @@ brackets-truth l N t us bs W a k wn ta =
     (g .1)
 
 -- the arrivals of buckets, if all of a bucket's came at its stamp
-abbrev pub own : List Entry → List ℕ
-own [] = []
-own (b ∷ bs) = replicate (size b) (b .stamp) ++ own bs
+abbrev pub ownArrivals : List Entry → List ℕ
+ownArrivals [] = []
+ownArrivals (b ∷ bs) = replicate (size b) (b .stamp) ++ ownArrivals bs
 
-own-groups : (bs : List Entry) → Groups bs (own bs)
+own-groups : (bs : List Entry) → Groups bs (ownArrivals bs)
 own-groups [] = refl
 own-groups (b ∷ bs) =
-    (replicate (size b) (b .stamp), own bs, refl, length-replicate (size b) (b .stamp), getD-replicate (size b) 0 (b .stamp) 0 (pow-pos (b .exponent)), own-groups bs)
+    (replicate (size b) (b .stamp), ownArrivals bs, refl, length-replicate (size b) (b .stamp), getD-replicate (size b) 0 (b .stamp) 0 (pow-pos (b .exponent)), own-groups bs)
 
-pub own-below : (x : ℕ) (bs : List Entry) → Below x (stamps bs) → Below x (own bs)
+pub own-below : (x : ℕ) (bs : List Entry) → Below x (stamps bs) → Below x (ownArrivals bs)
 own-below x [] b = tt
-own-below x (y ∷ bs) b = copies-below (size y) (y .stamp) x (own bs) (b .0) (own-below x bs (b .1))
+own-below x (y ∷ bs) b = copies-below (size y) (y .stamp) x (ownArrivals bs) (b .0) (own-below x bs (b .1))
 
-pub own-fall : (bs : List Entry) → Falling (stamps bs) → Falling (own bs)
+pub own-fall : (bs : List Entry) → Falling (stamps bs) → Falling (ownArrivals bs)
 own-fall [] f = tt
-own-fall (b ∷ bs) f = copies-fall (size b) (b .stamp) (own bs) (own-below (b .stamp) bs (f .0)) (own-fall bs (f .1))
+own-fall (b ∷ bs) f = copies-fall (size b) (b .stamp) (ownArrivals bs) (own-below (b .stamp) bs (f .0)) (own-fall bs (f .1))
 
--- formed buckets are a histogram of their own arrivals
-pub own-keeps : (l N t : ℕ) (bs : List Entry) → Formed l bs → Below t (stamps bs) → Keeps l N t (own bs) bs
+-- formed buckets are a histogram of their ownArrivals arrivals
+pub own-keeps : (l N t : ℕ) (bs : List Entry) → Formed l bs → Below t (stamps bs) → Keeps l N t (ownArrivals bs) bs
 own-keeps l N t bs f b =
-    keeps-from l N t (own bs) bs (own-fall bs (f .falling)) (own-below t bs b)
-    (f, subst (λ (us : List ℕ). Stands N t us 0 bs) (append-nil (own bs)) (groups-stand N t (own bs) [] bs (own-groups bs) tt))
+    keeps-from l N t (ownArrivals bs) bs (own-fall bs (f .falling)) (own-below t bs b)
+    (f, subst (λ (us : List ℕ). Stands N t us 0 bs) (append-nil (ownArrivals bs)) (groups-stand N t (ownArrivals bs) [] bs (own-groups bs) tt))
 
 -- insertions one by one, by levels
 pub inserted-levels : (l t v : ℕ) (levels : List (List ℕ)) → 1 ≤ l → Canonical l levels → Below t (stamps (flat 0 levels)) → Falling (stamps (flat 0 levels))
@@ -147,7 +147,7 @@ pub inserted-levels : (l t v : ℕ) (levels : List (List ℕ)) → 1 ≤ l → C
 inserted-levels l t zero levels one c b f = refl
 inserted-levels l t (suc v) levels one c b f =
     let e = inserted-levels l t v levels one c b f in
-    let now = insertions-keep l 0 t v (own (flat 0 levels)) (flat 0 levels) one (own-keeps l 0 t (flat 0 levels) (formed-levels l levels c f) b) in
+    let now = insertions-keep l 0 t v (ownArrivals (flat 0 levels)) (flat 0 levels) one (own-keeps l 0 t (flat 0 levels) (formed-levels l levels c f) b) in
     let facts = formed-says l t (insertions l v t (flat 0 levels)) (now .formed) in
     ap (insert l t) e ∙ push-insert l t (pushAll l (replicate v t) levels) (all-canon l one (replicate v t) levels c)
     (subst (λ (bs : List Entry). Falling (t ∷ stamps bs)) e (facts .1, facts .0 .falling))

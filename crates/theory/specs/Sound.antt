@@ -3,7 +3,7 @@ use mathlib.Core.Bool.{Bool, true, _&&_}
 use mathlib.Core.List.{List, [], _∷_}
 use Prim.Native.Nat.{ℕ, zero, suc, _+_, _*_}
 use lib.Dec.{leb, ltb, eqb}
-use lib.ListN.{length, take, drop}
+use lib.ListN.{length, take, drop, replicate}
 use Rattle.theory.specs.Buckets.{howMany, top}
 use Rattle.theory.specs.declared.entries.Entry.{Entry}
 
@@ -43,11 +43,16 @@ abbrev pub soundBuckets : (l r N t : ℕ) → List Entry → Bool
 soundBuckets l r N t bs =
     formed l t bs && (every (λ b. ltb t (b .stamp + N)) bs && every (λ b. leb (b .exponent) r) bs)
 
+-- entries that hold no bucket
+abbrev pub zeros : ℕ → List Entry
+zeros n = replicate n (record { stamp = 0; exponent = 0 })
+
 abbrev pub isZero : Entry → Bool
 isZero b = eqb (b .stamp) 0 && eqb (b .exponent) 0
 
--- a sound stretch of a track with b buckets and own tick t: its first b entries are sound buckets, the rest are zero
+-- a sound stretch of a track with b buckets and own tick t: it has (l + 1) × (r + 1) entries at least, its first b are
+-- sound buckets, and the rest are zero
 unfoldable pub sound : (l r N t b : ℕ) → List Entry → Bool
 sound l r N t b stretch =
-    (leb b (length stretch) && leb b ((l + 1) * (r + 1)))
+    (leb ((l + 1) * (r + 1)) (length stretch) && leb b ((l + 1) * (r + 1)))
     && (every isZero (drop b stretch) && soundBuckets l r N t (take b stretch))

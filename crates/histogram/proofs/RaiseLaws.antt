@@ -1,0 +1,169 @@
+-- One level of the insertion.
+use mathlib.Core.List.{List, [], _++_, _∷_, map}
+use mathlib.Core.Path.{_∙_, _≡_, ap, refl, sym}
+use native.Mathlib.Omega.{arith}
+use Prim.Native.Nat.{_%_, _*_, _+_, _-_, _<_, _≤_, min, suc, ℕ}
+use lib.Dec.{eqb}
+use lib.ListN.{drop, length, replicate, take}
+use Rattle.histogram.proofs.LaidLaws.{laid-none, laid-under, length-newer-is}
+use Rattle.histogram.specs.Raising.{Ready, incoming, laid, ofSize, ownOf, raised}
+use Rattle.histogram.specs.Settings.{room}
+use Rattle.std.proofs.shelf.Lists.{drop-drop, length-append, length-map, length-replicate, length-take, length-take-le, nil-from-length, take-take}
+use Rattle.std.proofs.shelf.Parts.{between-is}
+use Rattle.std.proofs.shelf.Tests.{cond-false, cond-true, eq-eqb, ne-eqb}
+use Rattle.theory.proofs.BatchLaws.{batch-level, length-copies, new-level′, up-count}
+use Rattle.theory.specs.Levels.{Canonical, flat, newer, pushAll, row, stay, staying, upOlds, ups}
+use Rattle.theory.specs.declared.entries.Entry.{Entry}
+
+abbrev pub headOf : List (List ℕ) → List ℕ
+headOf [] = []
+headOf (ss ∷ rest) = ss
+
+abbrev pub restOf : List (List ℕ) → List (List ℕ)
+restOf [] = []
+restOf (ss ∷ rest) = rest
+
+-- the front of a histogram by levels
+own-above : (l e : ℕ) (levels : List (List ℕ)) → Canonical l levels → ownOf e (flat (suc e) levels) ≡ []
+own-above l e [] c = refl
+own-above l e ([] ∷ rest) c = absurd (omega arith)
+own-above l e ((s ∷ ss) ∷ rest) c =
+    cond-false (eqb (suc e) e) (s ∷ ownOf e (row (suc e) ss (flat (suc (suc e)) rest))) [] (ne-eqb (suc e) e (λ q. omega arith))
+
+own-row : (e : ℕ) (ss : List ℕ) (older : List Entry) → ownOf e older ≡ [] → ownOf e (row e ss older) ≡ ss
+own-row e [] older h = h
+own-row e (s ∷ ss) older h =
+    cond-true (eqb e e) (s ∷ ownOf e (row e ss older)) [] (eq-eqb e e refl) ∙ ap {B = List ℕ} (λ r. s ∷ r) (own-row e ss older h)
+
+pub own-flat : (l e : ℕ) (levels : List (List ℕ)) → Canonical l levels → ownOf e (flat e levels) ≡ headOf levels
+own-flat l e [] c = refl
+own-flat l e (ss ∷ rest) c = own-row e ss (flat (suc e) rest) (own-above l e rest (c .3))
+
+pub drop-row : (e : ℕ) (ss : List ℕ) (older : List Entry) → drop (length ss) (row e ss older) ≡ older
+drop-row e [] older = refl
+drop-row e (s ∷ ss) older = drop-row e ss older
+
+rest-flat : (e : ℕ) (levels : List (List ℕ)) → drop (length (headOf levels)) (flat e levels) ≡ flat (suc e) (restOf levels)
+rest-flat e [] = refl
+rest-flat e (ss ∷ rest) = drop-row e ss (flat (suc e) rest)
+
+pub row-map : (e : ℕ) (ss : List ℕ) (older : List Entry) → row e ss older ≡ map (ofSize e) ss ++ older
+row-map e [] older = refl
+row-map e (s ∷ ss) older = ap {B = List Entry} (λ r. ofSize e s ∷ r) (row-map e ss older)
+
+pub head-few : (l : ℕ) (levels : List (List ℕ)) → Canonical l levels → length (headOf levels) ≤ l + 1
+head-few l [] c = omega arith
+head-few l (ss ∷ rest) c = c .1
+
+rest-canon : (l : ℕ) (levels : List (List ℕ)) → Canonical l levels → Canonical l (restOf levels)
+rest-canon l [] c = tt
+rest-canon l (ss ∷ rest) c = c .3
+
+no-head : (l : ℕ) (levels : List (List ℕ)) → Canonical l levels → length (headOf levels) ≡ 0 → levels ≡ []
+no-head l [] c h = refl
+no-head l (ss ∷ rest) c h = absurd (omega arith)
+
+len-stay : (l m t : ℕ) (olds : List ℕ) → length (stay l m t olds) ≡ staying l (m + length olds)
+len-stay l m t olds =
+    split (staying l (m + length olds)) (omega arith)
+  where
+    split : (r : ℕ) → r ≤ m + length olds → length (replicate (min r m) t ++ take (r - m) olds) ≡ r
+    split r h = omega (arith, length-append (replicate (min r m) t) (take (r - m) olds), length-replicate (min r m) t, length-take-le (r - m) olds (omega arith))
+
+module _ (l t m : ℕ) (from : List ℕ) (levels : List (List ℕ)) where
+  abbrev pub allOf : List ℕ
+  allOf = newer from ++ headOf levels
+
+  pub raise-law : Canonical l levels → 1 ≤ m + length allOf
+      → pushAll l (incoming m t from) levels ≡ stay l m t allOf ∷ pushAll l (incoming (ups l m allOf) t (drop ((staying l (m + length allOf) - m) + (m - staying l (m + length allOf)) % 2) allOf)) (restOf levels)
+  raise-law = go levels
+    where
+      go : (ls : List (List ℕ)) → Canonical l ls → 1 ≤ m + length (newer from ++ headOf ls)
+          → pushAll l (incoming m t from) ls ≡ stay l m t (newer from ++ headOf ls) ∷ pushAll l (replicate (ups l m (newer from ++ headOf ls)) t ++ upOlds l m (newer from ++ headOf ls)) (restOf ls)
+      go [] c h = new-level′ l (replicate m t ++ newer from) (omega (arith, length-copies m t (newer from), length-append (newer from) [])) ∙ batch-level l m t (newer from) [] [] (omega arith)
+      go (ss ∷ rest) c h = batch-level l m t (newer from) ss rest (c .1)
+
+module _ {l t m e o i b : ℕ} {from : List ℕ} {xs : List Entry} {levels : List (List ℕ)} (ready : Ready l t m e o i b from xs levels) where
+  abbrev pub stampsAt : List ℕ
+  stampsAt = newer from ++ headOf levels
+
+  abbrev pub stayAt : ℕ
+  stayAt = staying l (m + length stampsAt)
+
+  abbrev pub goUp : List ℕ
+  goUp = drop ((stayAt - m) + (m - stayAt) % 2) stampsAt
+
+  pub its-own : ownOf e (drop i (take b xs)) ≡ headOf levels
+  its-own = ap (ownOf e) (ready .whole) ∙ own-flat l e levels (ready .canon)
+
+  -- what the code has raise-gathered
+  pub raise-gathered : (came c : ℕ) (h₁ h₂ : List ℕ) → take came h₁ ≡ newer from → came ≡ length (newer from)
+      → take c h₂ ≡ take came h₁ ++ ownOf e (drop i (take b xs)) → c ≡ came + length (ownOf e (drop i (take b xs)))
+      → (take c h₂ ≡ stampsAt) × (c ≡ length stampsAt) × (c - came ≡ length (headOf levels))
+  raise-gathered came c h₁ h₂ a ka d kd =
+      let own : length (ownOf e (drop i (take b xs))) ≡ length (headOf levels) = ap length its-own in
+      (rw (a, its-own) at d, omega (arith, length-append (newer from) (headOf levels)), omega arith)
+
+  pub held-few : length from ≤ 2 * l + 2 → length stampsAt ≤ 2 * l + 2
+  held-few k = omega (arith, length-append (newer from) (headOf levels), length-newer-is from, head-few l levels (ready .canon))
+
+  pub raise-less : 1 ≤ m + length stampsAt → (ups l m stampsAt + length (newer goUp)) + length (headOf levels) < (m + length (newer from)) + length (headOf levels) + length (headOf levels)
+  raise-less h = omega (arith, up-count l m stampsAt, length-append (newer from) (headOf levels))
+
+  -- nothing comes in, and nothing is there
+  pub raise-none : m + length stampsAt ≡ 0 → (xs ≡ laid o (raised l t m e from levels) xs) × (o ≡ o + length (raised l t m e from levels))
+  raise-none h =
+      let n : length stampsAt ≡ length (newer from) + length (headOf levels) = length-append (newer from) (headOf levels) in
+      let none : levels ≡ [] = no-head l levels (ready .canon) (omega arith) in
+      let mz : m ≡ 0 = omega arith in
+      let fz : newer from ≡ [] = nil-from-length (newer from) (omega arith) in
+      let flat-is : raised l t m e from levels ≡ [] = rw (none, mz, fz) refl in
+      rw flat-is (sym (laid-none o xs), omega arith)
+
+  module _ (some : 1 ≤ m + length stampsAt) where
+    pub next-law : raised l t m e from levels ≡ map (ofSize e) (stay l m t stampsAt) ++ raised l t (ups l m stampsAt) (suc e) goUp (restOf levels)
+    next-law = ap (flat e) (raise-law l t m from levels (ready .canon) some) ∙ row-map e (stay l m t stampsAt) (raised l t (ups l m stampsAt) (suc e) goUp (restOf levels))
+
+    pub next-length : length (raised l t m e from levels) ≡ stayAt + length (raised l t (ups l m stampsAt) (suc e) goUp (restOf levels))
+    next-length =
+        ap length next-law
+        ∙ omega (arith, length-append (map (ofSize e) (stay l m t stampsAt)) (raised l t (ups l m stampsAt) (suc e) goUp (restOf levels)), length-map (stay l m t stampsAt) (ofSize e), len-stay l m t stampsAt)
+
+    pub next-tops : length (pushAll l (incoming m t from) levels) ≡ suc (length (pushAll l (incoming (ups l m stampsAt) t goUp) (restOf levels)))
+    next-tops = ap length (raise-law l t m from levels (ready .canon) some)
+
+    pub raise-next : (m′ e′ o′ i′ : ℕ) (from′ : List ℕ) → m′ ≡ ups l m stampsAt → e′ ≡ suc e → o′ ≡ o + stayAt → i′ ≡ i + length (headOf levels) → from′ ≡ goUp
+        → Ready l t m′ e′ o′ i′ b from′ xs (restOf levels)
+    raise-next m′ e′ o′ i′ from′ me ee oe ie fe = record {
+      whole = ap (λ (k : ℕ). drop k (take b xs)) ie ∙ sym (drop-drop (length (headOf levels)) i (take b xs)) ∙ ap (drop (length (headOf levels))) (ready .whole)
+          ∙ rest-flat e levels ∙ ap (λ (k : ℕ). flat k (restOf levels)) (sym ee);
+      canon = rest-canon l levels (ready .canon);
+      room = rw (me, ee, oe, fe) (omega (arith, next-length, ready .room));
+      tops = rw (me, ee, fe) (omega (arith, next-tops, ready .tops));
+    }
+
+    -- what the levels above became, and then this level's buckets under it
+    pub raise-done : (m′ e′ o′ : ℕ) (from′ : List ℕ) → m′ ≡ ups l m stampsAt → e′ ≡ suc e → o′ ≡ o + stayAt → from′ ≡ goUp
+        → (ys : List Entry) (r : ℕ) → ys ≡ laid o′ (raised l t m′ e′ from′ (restOf levels)) xs → r ≡ o′ + length (raised l t m′ e′ from′ (restOf levels))
+        → (laid o (map (ofSize e) (stay l m t stampsAt)) ys ≡ laid o (raised l t m e from levels) xs) × (r ≡ o + length (raised l t m e from levels))
+    raise-done m′ e′ o′ from′ me ee oe fe ys r w q =
+        let same : raised l t m′ e′ from′ (restOf levels) ≡ raised l t (ups l m stampsAt) (suc e) goUp (restOf levels) = rw (me, ee, fe) refl in
+        let n : o′ ≡ o + length (map (ofSize e) (stay l m t stampsAt)) = omega (arith, length-map (stay l m t stampsAt) (ofSize e), len-stay l m t stampsAt) in (
+          ap (laid o (map (ofSize e) (stay l m t stampsAt))) w
+              ∙ laid-under o o′ (map (ofSize e) (stay l m t stampsAt)) (raised l t m′ e′ from′ (restOf levels)) xs n (omega (arith, next-length, ready .room))
+              ∙ ap (λ (z : List Entry). laid o (map (ofSize e) (stay l m t stampsAt) ++ z) xs) same
+              ∙ ap (λ (z : List Entry). laid o z xs) (sym next-law),
+          omega (arith, next-length, ap length same),
+        )
+
+pub part-is : {X : Type 0} (xs ys : List X) (a c cut : ℕ) → take c xs ≡ ys → a ≡ cut → take (c - a) (drop a xs) ≡ drop cut ys
+part-is xs ys a c cut h q = between-is xs a c ∙ rw (h, q) refl
+
+pub front-is : {X : Type 0} (xs ys : List X) (a c cut : ℕ) → take c xs ≡ ys → a ≡ cut → a ≤ c → take a xs ≡ take cut ys
+front-is xs ys a c cut h q le = sym (take-take a c xs le) ∙ rw (h, q) refl
+
+pub measure-less : (b i x h u f m g : ℕ) → x ≡ h → i + x ≤ b → (u + f) + h < (m + g) + h + h → (b - (i + x)) + (u + f) < (b - i) + (m + g)
+measure-less b i x h u f m g e le lt = omega arith
+
+pub put-fits : (o m spare old stay n : ℕ) (xs : List ℕ) → spare ≡ m - stay → old ≡ stay - m → o + stay ≤ n → o + (m - spare + length (take old xs)) ≤ n
+put-fits o m spare old stay n xs a b h = omega (arith, length-take old xs)

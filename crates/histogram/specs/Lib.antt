@@ -1,0 +1,3 @@
+pub mod Raising
+pub mod Settings
+pub mod Tails

@@ -1,0 +1,14 @@
+//! The exponential histogram of one track, in a stretch of entries that the caller lends.
+mod exponent;
+mod levels;
+mod moves;
+mod opening;
+mod settings;
+
+pub use exponent::largest_exponent;
+pub use moves::clear;
+pub use opening::SettingsFault;
+pub use settings::HIGHEST_CAP;
+pub use settings::LONGEST_WINDOW;
+pub use settings::MOST_K;
+pub use settings::Settings;
