@@ -3,5 +3,7 @@ pub mod ExponentLaws
 pub mod LaidLaws
 pub mod MoveLaws
 pub mod RaiseLaws
+pub mod StretchLaws
+pub mod SurveyLaws
 pub mod TailLaws
 pub mod ZeroLaws

@@ -1,3 +1,4 @@
 pub mod Raising
 pub mod Settings
+pub mod Surveys
 pub mod Tails

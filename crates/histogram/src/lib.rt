@@ -4,6 +4,7 @@ mod levels;
 mod moves;
 mod opening;
 mod settings;
+mod surveys;
 
 pub use exponent::largest_exponent;
 pub use moves::clear;
@@ -12,3 +13,6 @@ pub use settings::HIGHEST_CAP;
 pub use settings::LONGEST_WINDOW;
 pub use settings::MOST_K;
 pub use settings::Settings;
+pub use surveys::Figures;
+pub use surveys::Survey;
+pub use surveys::examine;

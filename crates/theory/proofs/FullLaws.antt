@@ -64,7 +64,7 @@ row-small : (m e : ℕ) → e < m → (ss : List ℕ) (older : List Entry) → A
 row-small m e h [] older o = o
 row-small m e h (s ∷ ss) older o = (h, row-small m e h ss older o)
 
-flat-small : (m e : ℕ) (levels : List (List ℕ)) → e + length levels ≤ m → All (λ x. x .exponent < m) (flat e levels)
+pub flat-small : (m e : ℕ) (levels : List (List ℕ)) → e + length levels ≤ m → All (λ x. x .exponent < m) (flat e levels)
 flat-small m e [] h = tt
 flat-small m e (ss ∷ rest) h = row-small m e (omega arith) ss (flat (suc e) rest) (flat-small m (suc e) rest (omega arith))
 

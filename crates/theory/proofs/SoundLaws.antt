@@ -42,7 +42,7 @@ pub below-weaker : (s r : ℕ) → s ≤ r → (us : List ℕ) → Below s us �
 below-weaker s r h [] b = tt
 below-weaker s r h (u ∷ us) b = (omega (arith, b .0), below-weaker s r h us (b .1))
 
-rise-says : (s : ℕ) (bs : List Entry) → neverRise s bs ≡ true → Below s (stamps bs) × Falling (stamps bs)
+pub rise-says : (s : ℕ) (bs : List Entry) → neverRise s bs ≡ true → Below s (stamps bs) × Falling (stamps bs)
 rise-says s [] h = (tt, tt)
 rise-says s (b ∷ bs) h =
     let w = and-parts (leb (b .stamp) s) (neverRise (b .stamp) bs) h in
