@@ -1,5 +1,6 @@
 pub mod BitLaws
 pub mod ExponentLaws
+pub mod InsertLaws
 pub mod LaidLaws
 pub mod MoveLaws
 pub mod RaiseLaws

@@ -5,10 +5,11 @@ use native.Mathlib.Omega.{arith}
 use Prim.Native.Nat.{_%_, _*_, _+_, _-_, _<_, _≤_, min, suc, ℕ}
 use lib.Dec.{eqb}
 use lib.ListN.{drop, length, replicate, take}
-use Rattle.histogram.proofs.LaidLaws.{laid-none, laid-under, length-newer-is}
+use Rattle.histogram.proofs.LaidLaws.{laid-under, length-newer-is}
+use Rattle.histogram.proofs.MoveLaws.{part}
 use Rattle.histogram.specs.Raising.{Ready, incoming, laid, ofSize, ownOf, raised}
 use Rattle.histogram.specs.Settings.{room}
-use Rattle.std.proofs.shelf.Lists.{drop-drop, length-append, length-map, length-replicate, length-take, length-take-le, nil-from-length, take-take}
+use Rattle.std.proofs.shelf.Lists.{drop-drop, length-append, length-drop, length-map, length-replicate, length-take, length-take-le, nil-from-length, take-take}
 use Rattle.std.proofs.shelf.Parts.{between-is}
 use Rattle.std.proofs.shelf.Tests.{cond-false, cond-true, eq-eqb, ne-eqb}
 use Rattle.theory.proofs.BatchLaws.{batch-level, length-copies, new-level′, up-count}
@@ -110,15 +111,22 @@ module _ {l t m e o i b : ℕ} {from : List ℕ} {xs : List Entry} {levels : Lis
   pub raise-less : 1 ≤ m + length stampsAt → (ups l m stampsAt + length (newer goUp)) + length (headOf levels) < (m + length (newer from)) + length (headOf levels) + length (headOf levels)
   raise-less h = omega (arith, up-count l m stampsAt, length-append (newer from) (headOf levels))
 
-  -- nothing comes in, and nothing is there
-  pub raise-none : m + length stampsAt ≡ 0 → (xs ≡ laid o (raised l t m e from levels) xs) × (o ≡ o + length (raised l t m e from levels))
-  raise-none h =
-      let n : length stampsAt ≡ length (newer from) + length (headOf levels) = length-append (newer from) (headOf levels) in
-      let none : levels ≡ [] = no-head l levels (ready .canon) (omega arith) in
+  -- nothing comes in: what is there only moves
+  pub raise-none : m + length from ≡ 0 → (ys : List Entry) → i ≤ b → b ≤ length xs → ys ≡ laid o (drop i (take b xs)) xs
+      → (ys ≡ laid o (raised l t m e from levels) xs) × (o + (b - i) ≡ o + length (raised l t m e from levels))
+  raise-none h ys ib bx w =
       let mz : m ≡ 0 = omega arith in
-      let fz : newer from ≡ [] = nil-from-length (newer from) (omega arith) in
-      let flat-is : raised l t m e from levels ≡ [] = rw (none, mz, fz) refl in
-      rw flat-is (sym (laid-none o xs), omega arith)
+      let fz : from ≡ [] = nil-from-length from (omega arith) in
+      let same : raised l t m e from levels ≡ flat e levels = rw (mz, fz) refl in
+      let part : drop i (take b xs) ≡ raised l t m e from levels = ready .whole ∙ sym same in
+      (w ∙ ap (λ (z : List Entry). laid o z xs) part, omega (arith, ap length part, length-drop i (take b xs), length-take-le b xs bx))
+
+  pub raise-fits : m + length from ≡ 0 → i ≤ b → b ≤ length xs → o + (b - i) ≤ length xs
+  raise-fits h ib bx = omega (arith, raise-none h (laid o (drop i (take b xs)) xs) ib bx refl .1, ready .room)
+
+  -- something comes in
+  pub raise-some : (m + length from ≡ 0 → ⊥) → 1 ≤ m + length stampsAt
+  raise-some h = omega (arith, h, length-newer-is from, length-append (newer from) (headOf levels))
 
   module _ (some : 1 ≤ m + length stampsAt) where
     pub next-law : raised l t m e from levels ≡ map (ofSize e) (stay l m t stampsAt) ++ raised l t (ups l m stampsAt) (suc e) goUp (restOf levels)

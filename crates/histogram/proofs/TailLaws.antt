@@ -18,7 +18,7 @@ use Rattle.std.proofs.shelf.Tests.{and-from, and-left, and-parts, and-right, ca
 use Rattle.theory.proofs.TopLaws.{length-row}
 use Rattle.theory.specs.Buckets.{stamps, total}
 use Rattle.theory.specs.Levels.{Canonical, Filled, flat, row}
-use Rattle.theory.specs.Sound.{filled, neverRise}
+use Rattle.theory.specs.Sound.{filled, neverRise, zeroEntry}
 use Rattle.theory.specs.declared.entries.Entry.{Entry}
 
 -- one bucket of a level
@@ -169,14 +169,11 @@ tail-rises l r e s n rest d some lt up t =
 
 -- one level on, and back
 module _ (l r e s n : ℕ) (rest : List Entry) (v : Level l e s rest n) where
-  none : Entry
-  none = record { stamp = 0; exponent = 0 }
-
   whole-is : rest ≡ take n rest ++ drop n rest
   whole-is = sym (take-append-drop n rest)
 
-  last-is : lastStamp s (take n rest) ≡ getD rest (n - 1) (record { stamp = 0; exponent = 0 }) .stamp
-  last-is = last-at s n rest (record { stamp = 0; exponent = 0 }) (v .some) (v .inside)
+  last-is : lastStamp s (take n rest) ≡ getD rest (n - 1) zeroEntry .stamp
+  last-is = last-at s n rest zeroEntry (v .some) (v .inside)
 
   -- the level has n buckets
   level-is : (ss : List ℕ) (more : List (List ℕ)) → rest ≡ row e ss (flat (suc e) more) → Canonical l (ss ∷ more) → length ss ≡ n
@@ -188,15 +185,14 @@ module _ (l r e s n : ℕ) (rest : List Entry) (v : Level l e s rest n) where
       -- the one after the level would have its exponent
       not-short : length ss < n → ⊥
       not-short lt =
-          let d : Entry = record { stamp = 0; exponent = 0 } in
-          let at : getD rest (length ss) d .exponent ≡ e =
-          subst (λ (x : Entry). x .exponent ≡ e) (getD-take n rest (length ss) d lt) (level-at e s (take n rest) (length ss) d (v .level) (omega (arith, length-take-le n rest (v .inside)))) in
-          let older : getD rest (length ss) d .exponent ≡ suc e =
-          ap (λ (xs : List Entry). getD xs (length ss) d .exponent) w ∙ ap (λ (x : Entry). x .exponent) (row-past e ss (flat (suc e) more) d)
-          ∙ flat-first l (suc e) more d (c .3) (omega (arith, sizes, v .inside)) in
+          let at : getD rest (length ss) zeroEntry .exponent ≡ e =
+          subst (λ (x : Entry). x .exponent ≡ e) (getD-take n rest (length ss) zeroEntry lt) (level-at e s (take n rest) (length ss) zeroEntry (v .level) (omega (arith, length-take-le n rest (v .inside)))) in
+          let older : getD rest (length ss) zeroEntry .exponent ≡ suc e =
+          ap (λ (xs : List Entry). getD xs (length ss) zeroEntry .exponent) w ∙ ap (λ (x : Entry). x .exponent) (row-past e ss (flat (suc e) more) zeroEntry)
+          ∙ flat-first l (suc e) more zeroEntry (c .3) (omega (arith, sizes, v .inside)) in
           omega (arith, at, older)
 
-      exact : (length ss < n) ⊎ (n ≤ length ss) → (n ≡ l + 1) ⊎ ((n ≡ length rest) ⊎ (getD rest n (record { stamp = 0; exponent = 0 }) .exponent ≡ e → ⊥)) → length ss ≡ n
+      exact : (length ss < n) ⊎ (n ≤ length ss) → (n ≡ l + 1) ⊎ ((n ≡ length rest) ⊎ (getD rest n zeroEntry .exponent ≡ e → ⊥)) → length ss ≡ n
       exact (inl lt) q = absurd (not-short lt)
       exact (inr le) (inl q) = omega (arith, c .1)
       exact (inr le) (inr (inl q)) = omega (arith, sizes)
@@ -204,17 +200,15 @@ module _ (l r e s n : ℕ) (rest : List Entry) (v : Level l e s rest n) where
         where
           go : (n < length ss) ⊎ (length ss ≤ n) → length ss ≡ n
           go (inr x) = omega arith
-          go (inl x) =
-              let d : Entry = record { stamp = 0; exponent = 0 } in
-              absurd (q (ap (λ (xs : List Entry). getD xs n d .exponent) w ∙ row-at e ss (flat (suc e) more) n d x))
+          go (inl x) = absurd (q (ap (λ (xs : List Entry). getD xs n zeroEntry .exponent) w ∙ row-at e ss (flat (suc e) more) n zeroEntry x))
 
-  pub tail-after : Tail l r e s rest → Tail l r (e + 1) (getD rest (n - 1) (record { stamp = 0; exponent = 0 }) .stamp) (drop n rest)
+  pub tail-after : Tail l r e s rest → Tail l r (e + 1) (getD rest (n - 1) zeroEntry .stamp) (drop n rest)
   tail-after t = go (t .levels) (t .whole) (t .canonical) (t .tops)
     where
-      falls : neverRise (getD rest (n - 1) (record { stamp = 0; exponent = 0 }) .stamp) (drop n rest) ≡ true
+      falls : neverRise (getD rest (n - 1) zeroEntry .stamp) (drop n rest) ≡ true
       falls = subst (λ (x : ℕ). neverRise x (drop n rest) ≡ true) last-is (rise-split s (take n rest) (drop n rest) (subst (λ (xs : List Entry). neverRise s xs ≡ true) whole-is (t .falls)))
 
-      go : (ls : List (List ℕ)) → rest ≡ flat e ls → Canonical l ls → e + length ls ≤ r + 1 → Tail l r (e + 1) (getD rest (n - 1) (record { stamp = 0; exponent = 0 }) .stamp) (drop n rest)
+      go : (ls : List (List ℕ)) → rest ≡ flat e ls → Canonical l ls → e + length ls ≤ r + 1 → Tail l r (e + 1) (getD rest (n - 1) zeroEntry .stamp) (drop n rest)
       go [] w c h = absurd (omega (arith, ap length w, v .some, v .inside))
       go (ss ∷ more) w c h =
           let one : suc e ≡ e + 1 = omega arith in
@@ -226,7 +220,7 @@ module _ (l r e s n : ℕ) (rest : List Entry) (v : Level l e s rest n) where
             tops = omega (arith, h);
           }
 
-  pub tail-before : Tail l r (e + 1) (getD rest (n - 1) (record { stamp = 0; exponent = 0 }) .stamp) (drop n rest) → Tail l r e s rest
+  pub tail-before : Tail l r (e + 1) (getD rest (n - 1) zeroEntry .stamp) (drop n rest) → Tail l r e s rest
   tail-before t =
       let one : e + 1 ≡ suc e = omega arith in
       let ss : List ℕ = stamps (take n rest) in

@@ -1,3 +1,4 @@
+pub mod Entering
 pub mod Raising
 pub mod Settings
 pub mod Surveys

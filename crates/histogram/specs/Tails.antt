@@ -10,7 +10,7 @@ use Rattle.std.specs.declared.option.Option.{Option}
 use Rattle.std.specs.declared.option.Option.the-variants.{Some, None}
 use Rattle.theory.specs.Buckets.{total}
 use Rattle.theory.specs.Levels.{flat, Canonical}
-use Rattle.theory.specs.Sound.{neverRise}
+use Rattle.theory.specs.Sound.{neverRise, zeroEntry}
 use Rattle.theory.specs.declared.entries.Entry.{Entry}
 
 -- all have exponent e, and their stamps never rise from last on
@@ -33,7 +33,7 @@ pub record Level (l e last : ℕ) (rest : List Entry) (n : ℕ) : Type 0 where
   pub few : n ≤ l + 1
   pub inside : n ≤ length rest
   pub filled : n < length rest → l ≤ n
-  pub ends : (n ≡ l + 1) ⊎ ((n ≡ length rest) ⊎ (getD rest n (record { stamp = 0; exponent = 0 }) .exponent ≡ e → ⊥))
+  pub ends : (n ≡ l + 1) ⊎ ((n ≡ length rest) ⊎ (getD rest n zeroEntry .exponent ≡ e → ⊥))
 
 -- the level at the front has n buckets, or there is none that could be continued
 abbrev pub LevelOf : (l e last : ℕ) → List Entry → Option ℕ → Type 0

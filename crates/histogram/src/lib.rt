@@ -1,5 +1,6 @@
 //! The exponential histogram of one track, in a stretch of entries that the caller lends.
 mod exponent;
+mod inserting;
 mod levels;
 mod moves;
 mod opening;

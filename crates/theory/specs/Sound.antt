@@ -43,9 +43,12 @@ abbrev pub soundBuckets : (l r N t : ℕ) → List Entry → Bool
 soundBuckets l r N t bs =
     formed l t bs && (every (λ b. ltb t (b .stamp + N)) bs && every (λ b. leb (b .exponent) r) bs)
 
--- entries that hold no bucket
+-- what an entry holds where no bucket is
+abbrev pub zeroEntry : Entry
+zeroEntry = record { stamp = 0; exponent = 0 }
+
 abbrev pub zeros : ℕ → List Entry
-zeros n = replicate n (record { stamp = 0; exponent = 0 })
+zeros n = replicate n zeroEntry
 
 abbrev pub isZero : Entry → Bool
 isZero b = eqb (b .stamp) 0 && eqb (b .exponent) 0

@@ -8,7 +8,7 @@ use Rattle.histogram.proofs.TailLaws.{level-more, tail-front, tail-rises}
 use Rattle.histogram.specs.Tails.{levelled}
 use Rattle.std.proofs.shelf.Tests.{false≢true}
 use Rattle.std.specs.Reads.{value}
-use Rattle.theory.specs.Sound.{filled}
+use Rattle.theory.specs.Sound.{filled, zeroEntry}
 use denote.Ref.{now}
 use Rattle.histogram.proofs.levels.level_length.Needs as need
 
@@ -24,7 +24,7 @@ returns-then-not-is-level c = record {
 
 pub returns-then-next-rest : need.returns-then-next-rest
 returns-then-next-rest c = record {
-  value = λ r t. tail-rises (c .args .half) r (c .args .e) (c .args .last) (c .min-sure .result) (c .args .rest .now) (record { stamp = 0; exponent = 0 }) (omega arith) (omega arith) (c .if-next-rest .taken) t
+  value = λ r t. tail-rises (c .args .half) r (c .args .e) (c .args .last) (c .min-sure .result) (c .args .rest .now) zeroEntry (omega arith) (omega arith) (c .if-next-rest .taken) t
 }
 
 pub returns-then-next-e : need.returns-then-next-e
@@ -36,7 +36,7 @@ returns-then-next-e c =
     ap (λ (n : ℕ). levelled (c .args .e) (c .args .last) (take n rest)) z ∙ sym (c .is-level .ensures .value) ∙ c .if-not-is-level .left in
     record {
       value = record {
-        level = level-more (c .args .e) (c .args .last) sure rest (record { stamp = 0; exponent = 0 }) front (omega arith) (omega arith) (c .if-next-e .taken) (c .if-next-rest .left);
+        level = level-more (c .args .e) (c .args .last) sure rest zeroEntry front (omega arith) (omega arith) (c .if-next-e .taken) (c .if-next-rest .left);
         some = omega arith;
         few = omega arith;
         inside = omega arith;

@@ -4,7 +4,7 @@ use native.Mathlib.Omega.{arith}
 use Prim.Native.Nat.{_+_, _-_, zero, ℕ}
 use lib.ListN.{length}
 use Rattle.std.proofs.shelf.Lists.{append-nil, drop-all, length-replicate}
-use Rattle.theory.specs.Sound.{zeros}
+use Rattle.theory.specs.Sound.{zeroEntry, zeros}
 use Rattle.theory.specs.declared.entries.Entry.{Entry}
 use denote.Ref.{now}
 use Rattle.histogram.proofs.moves.clear.Needs as need
@@ -13,7 +13,6 @@ pub returns : need.returns
 returns c =
     let xs = c .args .stretch .now in
     let n : ℕ = length xs in
-    let none : Entry = record { stamp = 0; exponent = 0 } in
-    let d : 0 + length (zeros (n - 0)) ≡ n = omega (arith, length-replicate (n - 0) none) in
+    let d : 0 + length (zeros (n - 0)) ≡ n = omega (arith, length-replicate (n - 0) zeroEntry) in
     let z : n - 0 ≡ n = omega arith in
     record { cleared = c .zero .ensures .zeroed ∙ ap (λ (ys : List Entry). zeros (n - 0) ++ ys) (drop-all (0 + length (zeros (n - 0))) xs (omega (arith, d))) ∙ append-nil (zeros (n - 0)) ∙ ap zeros z }

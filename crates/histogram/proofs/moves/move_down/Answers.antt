@@ -7,6 +7,7 @@ use Rattle.histogram.proofs.LaidLaws.{laid-none, moved}
 use Rattle.histogram.proofs.MoveLaws.{down-more, part}
 use Rattle.histogram.specs.Raising.{laid}
 use Rattle.std.proofs.shelf.Lists.{length-drop, length-take-le, take-all}
+use Rattle.theory.specs.Sound.{zeroEntry}
 use Rattle.theory.specs.declared.entries.Entry.{Entry}
 use denote.Ref.{now}
 use Rattle.histogram.proofs.moves.move_down.Needs as need
@@ -18,7 +19,7 @@ loop-k-holds c =
 
 pub loop-k-again : need.loop-k-again
 loop-k-again c = (
-  down-more (c .args .i) (c .args .b) (c .args .o) (c .args .stretch .now) (omega arith) (c .loop-k .k) (c .loop-k .stretch) (record { stamp = 0; exponent = 0 }) (omega arith) (omega arith) (omega arith) (c .loop-k .inv .0),
+  down-more (c .args .i) (c .args .b) (c .args .o) (c .args .stretch .now) (omega arith) (c .loop-k .k) (c .loop-k .stretch) zeroEntry (omega arith) (omega arith) (omega arith) (c .loop-k .inv .0),
   omega arith,
   omega arith,
 )

@@ -6,7 +6,7 @@ use lib.ListN.{length, set}
 use Rattle.histogram.proofs.LaidLaws.{laid-more, laid-none}
 use Rattle.histogram.specs.Raising.{laid}
 use Rattle.std.proofs.shelf.Lists.{length-replicate, replicate-more}
-use Rattle.theory.specs.Sound.{zeros}
+use Rattle.theory.specs.Sound.{zeroEntry, zeros}
 use Rattle.theory.specs.declared.entries.Entry.{Entry}
 use denote.Ref.{now}
 use Rattle.histogram.proofs.moves.zero.Needs as need
@@ -21,13 +21,12 @@ loop-k-again c =
     let from = c .args .from in
     let k = c .loop-k .k in
     let xs = c .args .stretch .now in
-    let none : Entry = record { stamp = 0; exponent = 0 } in
-    let at : from + length (zeros (k - from)) ≡ k = omega (arith, length-replicate (k - from) none, c .loop-k .inv .1) in
+    let at : from + length (zeros (k - from)) ≡ k = omega (arith, length-replicate (k - from) zeroEntry, c .loop-k .inv .1) in
     let one : (k - from) + 1 ≡ k + 1 - from = omega (arith, c .loop-k .inv .1) in
-    (ap (λ (z : List Entry). set z k none) (c .loop-k .inv .0)
-    ∙ ap (λ (z : ℕ). set (laid from (zeros (k - from)) xs) z none) (sym at)
-    ∙ laid-more from (zeros (k - from)) xs none (omega arith)
-    ∙ ap (λ (z : List Entry). laid from z xs) (replicate-more (k - from) none ∙ ap zeros one), omega arith, omega arith)
+    (ap (λ (z : List Entry). set z k zeroEntry) (c .loop-k .inv .0)
+    ∙ ap (λ (z : ℕ). set (laid from (zeros (k - from)) xs) z zeroEntry) (sym at)
+    ∙ laid-more from (zeros (k - from)) xs zeroEntry (omega arith)
+    ∙ ap (λ (z : List Entry). laid from z xs) (replicate-more (k - from) zeroEntry ∙ ap zeros one), omega arith, omega arith)
 
 pub returns : need.returns
 returns c =

@@ -7,6 +7,7 @@ use Rattle.histogram.specs.Surveys.{lives}
 use Rattle.std.proofs.shelf.Lists.{nil-from-length}
 use Rattle.std.proofs.shelf.Tests.{eqb-false, eqb-true}
 use Rattle.std.specs.Reads.{value}
+use Rattle.theory.specs.Sound.{zeroEntry}
 use denote.Ref.{now}
 use Rattle.histogram.proofs.surveys.oldest_lives.Needs as need
 
@@ -20,4 +21,4 @@ pub returns-else-is-empty : need.returns-else-is-empty
 returns-else-is-empty c =
     let bs = c .args .buckets .now in
     let some = eqb-false (length bs) 0 (sym (c .if-is-empty .ensures tt)) in
-    record { value = c .in-window .ensures .value ∙ sym (lives-at (c .args .window) (c .args .own) bs (record { stamp = 0; exponent = 0 }) (omega (arith, some))) }
+    record { value = c .in-window .ensures .value ∙ sym (lives-at (c .args .window) (c .args .own) bs zeroEntry (omega (arith, some))) }

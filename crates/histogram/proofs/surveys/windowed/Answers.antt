@@ -10,7 +10,7 @@ use Rattle.std.proofs.shelf.Lists.{length-take-le, take-all}
 use Rattle.std.proofs.shelf.Tests.{ltb-true}
 use Rattle.std.specs.Reads.{value}
 use Rattle.theory.specs.Buckets.{oldest, total, within}
-use Rattle.theory.specs.declared.entries.Entry.{Entry}
+use Rattle.theory.specs.Sound.{zeroEntry}
 use denote.Ref.{now}
 use Rattle.histogram.proofs.surveys.windowed.Needs as need
 use Rattle.histogram.proofs.surveys.windowed.Needs.{then-loop-n-test·else-not-in-window, else-loop-n-test}
@@ -22,36 +22,33 @@ loop-n-holds c =
     (ap (within (c .args .window) (c .args .at)) all, c .pre .sum ∙ ap total (sym all), omega arith)
 
 pub shl-left : need.shl-left
-shl-left c = omega (arith, all-getD (λ b. b .exponent ≤ 30) (c .args .buckets .now) (c .loop-n .n - 1) (record { stamp = 0; exponent = 0 }) (omega arith) (c .pre .small))
+shl-left c = omega (arith, all-getD (λ b. b .exponent ≤ 30) (c .args .buckets .now) (c .loop-n .n - 1) zeroEntry (omega arith) (c .pre .small))
 
 pub sub-left : need.sub-left
 sub-left c =
-    let none : Entry = record { stamp = 0; exponent = 0 } in
     let bs = c .args .buckets .now in
-    let small : getD bs (c .loop-n .n - 1) none .exponent ≤ 30 = all-getD (λ b. b .exponent ≤ 30) bs (c .loop-n .n - 1) none (omega arith) (c .pre .small) in
-    omega (arith, one-shl (getD bs (c .loop-n .n - 1) none .exponent) 64 (omega arith), total-less bs (c .loop-n .n) none (omega arith) (omega arith), c .loop-n .inv .1)
+    let small : getD bs (c .loop-n .n - 1) zeroEntry .exponent ≤ 30 = all-getD (λ b. b .exponent ≤ 30) bs (c .loop-n .n - 1) zeroEntry (omega arith) (c .pre .small) in
+    omega (arith, one-shl (getD bs (c .loop-n .n - 1) zeroEntry .exponent) 64 (omega arith), total-less bs (c .loop-n .n) zeroEntry (omega arith) (omega arith), c .loop-n .inv .1)
 
 pub loop-n-again : need.loop-n-again
 loop-n-again c =
-    let none : Entry = record { stamp = 0; exponent = 0 } in
     let bs = c .args .buckets .now in
     let n = c .loop-n .n in
-    let small : getD bs (n - 1) none .exponent ≤ 30 = all-getD (λ b. b .exponent ≤ 30) bs (n - 1) none (omega arith) (c .pre .small) in
-    (drop-last (c .args .window) (c .args .at) bs n none (omega arith) (omega arith) (sym (c .if-not-in-window .ensures tt .value)) ∙ c .loop-n .inv .0,
-    omega (arith, one-shl (getD bs (n - 1) none .exponent) 64 (omega arith), total-less bs n none (omega arith) (omega arith), c .loop-n .inv .1),
+    let small : getD bs (n - 1) zeroEntry .exponent ≤ 30 = all-getD (λ b. b .exponent ≤ 30) bs (n - 1) zeroEntry (omega arith) (c .pre .small) in
+    (drop-last (c .args .window) (c .args .at) bs n zeroEntry (omega arith) (omega arith) (sym (c .if-not-in-window .ensures tt .value)) ∙ c .loop-n .inv .0,
+    omega (arith, one-shl (getD bs (n - 1) zeroEntry .exponent) 64 (omega arith), total-less bs n zeroEntry (omega arith) (omega arith), c .loop-n .inv .1),
     omega arith)
 
 pub returns : need.returns
 returns c =
-    let none : Entry = record { stamp = 0; exponent = 0 } in
     let bs = c .args .buckets .now in
     let n = c .loop-n .n in
-    let live : 0 < n → c .args .at < getD bs (n - 1) none .stamp + c .args .window =
+    let live : 0 < n → c .args .at < getD bs (n - 1) zeroEntry .stamp + c .args .window =
     elim (c .loop-n-test .came) [
-      then-loop-n-test·else-not-in-window w ↦ λ _. ltb-true (c .args .at) (getD bs (n - 1) none .stamp + c .args .window) (sym (w .if-not-in-window .ensures tt .value))
+      then-loop-n-test·else-not-in-window w ↦ λ _. ltb-true (c .args .at) (getD bs (n - 1) zeroEntry .stamp + c .args .window) (sym (w .if-not-in-window .ensures tt .value))
     | else-loop-n-test w ↦ λ h. absurd (omega (arith, w .loop-n-test .left, h))
     ] in
-    let front : take n bs ≡ within (c .args .window) (c .args .at) bs = sym (front-within (c .args .window) (c .args .at) bs n none (c .pre .falling) (c .loop-n .inv .2) live) ∙ c .loop-n .inv .0 in
+    let front : take n bs ≡ within (c .args .window) (c .args .at) bs = sym (front-within (c .args .window) (c .args .at) bs n zeroEntry (c .pre .falling) (c .loop-n .inv .2) live) ∙ c .loop-n .inv .0 in
     let many : n ≡ length (take n bs) = sym (length-take-le n bs (c .loop-n .inv .2)) in
     let all : record { buckets = n; sizes = c .loop-n .left; oldest = c .oldest-size .result } ≡ told (take n bs) =
     rw (← many, c .loop-n .inv .1, c .oldest-size .ensures .value) refl in
