@@ -1,4 +1,5 @@
 pub mod BitLaws
+pub mod EnterLaws
 pub mod ExponentLaws
 pub mod InsertLaws
 pub mod LaidLaws

@@ -7,20 +7,23 @@ use Prim.Native.Nat.{_*_, _+_, _<_, _≤_, suc, ℕ}
 use lib.Dec.{leb}
 use lib.ListN.{drop, length, take}
 use Rattle.histogram.proofs.SurveyLaws.{all-lives, lives-all}
-use Rattle.histogram.specs.Surveys.{lives, surveyed, told}
+use Rattle.histogram.specs.Surveys.{Bracketed, figures, lives, surveyed, told}
 use Rattle.histogram.specs.Tails.{Tail}
 use Rattle.histogram.specs.declared.settings.Settings.{Settings}
+use Rattle.histogram.specs.declared.surveys.Survey.{Survey}
 use Rattle.std.proofs.shelf.Elements.{all-weaker}
-use Rattle.std.proofs.shelf.Tests.{and-from, and-parts, cond-false, cond-true, le-leb, leb-true}
+use Rattle.std.proofs.shelf.Tests.{and-from, and-parts, cond-both, cond-false, cond-true, le-leb, leb-true}
+use Rattle.std.specs.declared.option.Option.{Option}
 use Rattle.std.specs.declared.option.Option.the-variants.{None, Some}
 use Rattle.std.specs.shelf.Lists.{All}
 use Rattle.theory.proofs.FormLaws.{formed-levels}
 use Rattle.theory.proofs.FullLaws.{flat-small}
+use Rattle.theory.proofs.KeepLaws.{brackets-truth}
 use Rattle.theory.proofs.LevelLaws.{levels-of}
 use Rattle.theory.proofs.SoundLaws.{formed-from, formed-says, rise-says, sound-from, sound-says}
 use Rattle.theory.proofs.Views.{Formed}
 use Rattle.theory.specs.Arrivals.{Falling}
-use Rattle.theory.specs.Buckets.{stamps, top, within}
+use Rattle.theory.specs.Buckets.{high, low, stamps, top, within}
 use Rattle.theory.specs.Levels.{Canonical, flat, row}
 use Rattle.theory.specs.Sound.{every, filled, formed, isZero, neverRise, sound, soundBuckets, startAtZero}
 use Rattle.theory.specs.declared.entries.Entry.{Entry}
@@ -120,3 +123,19 @@ module _ (s : Settings) (own b W a : ℕ) (xs : List Entry) where
   pub surveyed-some : Facts → Some (told (within W a (take b xs))) ≡ surveyed s own b W a xs
   surveyed-some f =
       sym (cond-true (sound (s .half) (s .top) (s .window) own b xs) (Some (told (within W a (take b xs)))) None (stretch-from (s .half) (s .top) (s .window) own b xs f))
+
+  -- a survey tells that the stretch is sound
+  abbrev pub Says : Option Survey → Type 0
+  Says (Some v) = (sound (s .half) (s .top) (s .window) own b xs ≡ true) × (v ≡ told (within W a (take b xs)))
+  Says None = Unit {0}
+
+  pub surveyed-says : (o : Option Survey) → o ≡ surveyed s own b W a xs → Says o
+  surveyed-says o e =
+      subst Says (sym e) (cond-both (sound (s .half) (s .top) (s .window) own b xs) (Some (told (within W a (take b xs)))) None Says (λ t. (t, refl)) (λ _. tt))
+
+  pub figures-some : sound (s .half) (s .top) (s .window) own b xs ≡ true
+      → Some (record { low = low (within W a (take b xs)); high = high (within W a (take b xs)) }) ≡ figures s own b W a xs
+  figures-some t = sym (cond-true (sound (s .half) (s .top) (s .window) own b xs) (Some (record { low = low (within W a (take b xs)); high = high (within W a (take b xs)) })) None t)
+
+  pub figures-bracket : Bracketed s own b W a xs (Some (record { low = low (within W a (take b xs)); high = high (within W a (take b xs)) }))
+  figures-bracket us k wn ta = brackets-truth (s .half) (s .window) own us (take b xs) W a k wn ta

@@ -6,6 +6,7 @@ use native.Mathlib.Omega.{arith}
 use Prim.Native.Nat.{_+_, _-_, _<_, _≤_, suc, zero, ℕ}
 use lib.Dec.{leb, ltb}
 use lib.ListN.{getD, length, take}
+use lib.Pow.{pow-pos}
 use Rattle.histogram.proofs.TailLaws.{total-append}
 use Rattle.histogram.specs.Surveys.{lives}
 use Rattle.std.proofs.shelf.Elements.{kept-by-append}
@@ -13,7 +14,7 @@ use Rattle.std.proofs.shelf.Lists.{append-nil, take-more}
 use Rattle.std.proofs.shelf.Tests.{and-parts, cond-false, cond-true, leb-true, lt-ltb, ltb-true}
 use Rattle.std.specs.shelf.Lists.{All}
 use Rattle.theory.specs.Arrivals.{Falling}
-use Rattle.theory.specs.Buckets.{oldest, size, stamps, total, within}
+use Rattle.theory.specs.Buckets.{low, oldest, size, stamps, total, within}
 use Rattle.theory.specs.Sound.{neverRise}
 use Rattle.theory.specs.declared.entries.Entry.{Entry}
 
@@ -101,3 +102,24 @@ pub total-less : (bs : List Entry) (n : ℕ) (d : Entry) → 0 < n → n ≤ len
 total-less bs n d h k =
     ap total (split-last bs n d h k) ∙ total-append (take (n - 1) bs) (getD bs (n - 1) d ∷ [])
     ∙ omega arith
+
+-- low, from how many buckets, the sum of their sizes and the oldest
+pub oldest-le : (c : ℕ) (bs : List Entry) → oldest c bs ≤ c + total bs
+oldest-le c [] = omega arith
+oldest-le c (b ∷ bs) = omega (arith, oldest-le (size b) bs)
+
+pub low-none : (bs : List Entry) → length bs ≡ 0 → low bs ≡ 0
+low-none [] h = refl
+low-none (b ∷ bs) h = absurd (omega arith)
+
+pub low-some : (bs : List Entry) → (length bs ≡ 0 → ⊥) → low bs ≡ (total bs - oldest 0 bs) + 1
+low-some [] h = absurd (h refl)
+low-some (b ∷ bs) h = refl
+
+pub oldest-some : (bs : List Entry) → (length bs ≡ 0 → ⊥) → 1 ≤ oldest 0 bs
+oldest-some [] h = absurd (h refl)
+oldest-some (b ∷ bs) h = from (size b) bs (pow-pos (b .exponent))
+  where
+    from : (c : ℕ) (bs : List Entry) → 1 ≤ c → 1 ≤ oldest c bs
+    from c [] h = h
+    from c (b ∷ bs) h = from (size b) bs (pow-pos (b .exponent))

@@ -1,11 +1,12 @@
 -- What a pass over a stretch tells of the buckets in a window.
 use mathlib.Core.Bool.{Bool, true, cond}
 use mathlib.Core.List.{List, [], _∷_}
-use Prim.Native.Nat.{ℕ, _+_}
+use Prim.Native.Nat.{ℕ, _+_, _≤_}
 use lib.Dec.{ltb}
 use lib.ListN.{length, take}
 use Rattle.std.specs.declared.option.Option.{Option}
 use Rattle.std.specs.declared.option.Option.the-variants.{Some, None}
+use Rattle.theory.specs.Arrivals.{Keeps, Brackets, truth}
 use Rattle.theory.specs.Buckets.{total, oldest, within, low, high}
 use Rattle.theory.specs.Sound.{sound}
 use Rattle.theory.specs.declared.entries.Entry.{Entry}
@@ -33,3 +34,10 @@ abbrev pub figures : Settings → (own b W a : ℕ) → List Entry → Option Fi
 figures s own b W a stretch =
     cond (sound (s .half) (s .top) (s .window) own b stretch)
     (Some (record { low = low (within W a (take b stretch)); high = high (within W a (take b stretch)) })) None
+
+-- whatever arrivals the buckets are a histogram of, low and high bracket their true count
+abbrev pub Bracketed : Settings → (own b W a : ℕ) → List Entry → Option Figures → Type 0
+Bracketed s own b W a stretch None = Unit {0}
+Bracketed s own b W a stretch (Some f) =
+    (us : List ℕ) → Keeps (s .half) (s .window) own us (take b stretch) → W ≤ s .window → own ≤ a
+    → Brackets (s .half) (truth W a us) (f .low) (f .high)

@@ -1,4 +1,10 @@
 //! The exponential histogram of one track, in a stretch of entries that the caller lends.
+//!
+//! A stretch holds the buckets newest first and zero entries after them. [`enter`] puts arrivals in, [`count`] says what a
+//! window holds at least and at most, [`is_sound`] tells a stretch that insertion can have left from any other, and
+//! [`clear`] empties one. [`Settings`] say how fine the histogram is and how long its longest window.
+mod counting;
+mod entering;
 mod exponent;
 mod inserting;
 mod levels;
@@ -7,6 +13,11 @@ mod opening;
 mod settings;
 mod surveys;
 
+pub use counting::count;
+pub use counting::is_sound;
+pub use entering::EnterFault;
+pub use entering::Standing;
+pub use entering::enter;
 pub use exponent::largest_exponent;
 pub use moves::clear;
 pub use opening::SettingsFault;
@@ -17,3 +28,4 @@ pub use settings::Settings;
 pub use surveys::Figures;
 pub use surveys::Survey;
 pub use surveys::examine;
+pub use theory::Entry;
