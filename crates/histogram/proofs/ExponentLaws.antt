@@ -41,7 +41,7 @@ sides m l hl hm hb =
     let is : 63 - leadingZeros 64 ((m - 1) / l + 1) ≡ j = omega (arith, top .1) in
     subst (Sides m l) (sym is) (record {
       low = omega (arith, below, mul-comm l (2 ^ j - 1));
-      high = subst (λ (k : ℕ). m ≤ l * (2 ^ k - 1)) (sym (add-one j)) (omega (arith, above, mul-comm l (2 ^ suc j - 1)))
+      high = subst (λ (k : ℕ). m ≤ l * (2 ^ k - 1)) (sym (add-one j)) (omega (arith, above, mul-comm l (2 ^ suc j - 1)));
     })
 
 -- the settings' arrivals need no exponent above 30

@@ -42,8 +42,13 @@ own-stop e bs x rest q h = ap (ownOf e) q ∙ cond-false (eqb (x .exponent) e) (
 module _ {X : Type 0} where
   pub laid-length : (o : ℕ) (ws xs : List X) → o + length ws ≤ length xs → length (laid o ws xs) ≡ length xs
   laid-length o ws xs h =
-      omega (arith, length-append (take o xs) (ws ++ drop (o + length ws) xs), length-append ws (drop (o + length ws) xs),
-      length-take-le o xs (omega arith), length-drop (o + length ws) xs)
+      omega (
+        arith,
+        length-append (take o xs) (ws ++ drop (o + length ws) xs),
+        length-append ws (drop (o + length ws) xs),
+        length-take-le o xs (omega arith),
+        length-drop (o + length ws) xs,
+      )
 
   pub laid-none : (o : ℕ) (xs : List X) → laid o [] xs ≡ xs
   laid-none o xs = let z : o + 0 ≡ o = omega arith in rw z (take-append-drop o xs)
@@ -114,8 +119,15 @@ window-more xs k b d h g =
 pub one-fits : (held held₀ : List ℕ) (n c x : ℕ) (left left′ all : List ℕ) → left ≡ x ∷ left′
     → take n held ++ left ≡ take c held₀ ++ all → n ≤ length held → c + length all ≤ length held₀ → length held ≡ length held₀ → n < length held
 one-fits held held₀ n c x left left′ all e w h g k =
-    omega (arith, ap length w, ap length e, length-append (take n held) left, length-append (take c held₀) all,
-    length-take-le n held h, length-take-le c held₀ (omega arith))
+    omega (
+      arith,
+      ap length w,
+      ap length e,
+      length-append (take n held) left,
+      length-append (take c held₀) all,
+      length-take-le n held h,
+      length-take-le c held₀ (omega arith),
+    )
 
 -- all are moved
 pub all-moved : (held all : List ℕ) (n : ℕ) (left : List ℕ) → left ≡ [] → take n held ++ left ≡ all → n ≤ length held → (take n held ≡ all) × (n ≡ length all)

@@ -236,8 +236,12 @@ module _ (l r e s n : ℕ) (rest : List Entry) (v : Level l e s rest n) where
       fill : (ls : List (List ℕ)) → drop n rest ≡ flat (e + 1) ls → Canonical l ls → Filled l (stamps (take n rest)) ls
       fill [] w c = tt
       fill (ss ∷ more) w c =
-          omega (arith, length-stamps (take n rest), length-take-le n rest (v .inside),
-          v .filled (omega (arith, ap length w, length-drop n rest, length-row (e + 1) ss (flat (suc (e + 1)) more), c .0)))
+          omega (
+            arith,
+            length-stamps (take n rest),
+            length-take-le n rest (v .inside),
+            v .filled (omega (arith, ap length w, length-drop n rest, length-row (e + 1) ss (flat (suc (e + 1)) more), c .0)),
+          )
 
 -- the start and the end of the pass
 pub tail-end : (l r e s : ℕ) → e ≤ r + 1 → Tail l r e s []

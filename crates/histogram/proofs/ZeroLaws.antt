@@ -50,11 +50,11 @@ pub zeros-more : (xs : List Entry) (k : ℕ) (d : Entry) (s e : ℕ) → k < len
     × (All Zero (take (k + 1) xs) → (bitOr s (getD xs k d .stamp) ≡ 0) × (bitOr e (getD xs k d .exponent) ≡ 0))
 zeros-more xs k d s e h inv = (
   λ p q.
-    let a = or-zero s (getD xs k d .stamp) p in
-    let b = or-zero e (getD xs k d .exponent) q in
-    all-more Zero xs k d h (inv .0 (a .0) (b .0)) (a .1, b .1),
+      let a = or-zero s (getD xs k d .stamp) p in
+      let b = or-zero e (getD xs k d .exponent) q in
+      all-more Zero xs k d h (inv .0 (a .0) (b .0)) (a .1, b .1),
   λ all.
-    let here : Zero (getD xs k d) = subst Zero (getD-take (k + 1) xs k d (omega arith)) (all-getD Zero (take (k + 1) xs) k d (omega (arith, length-take-le (k + 1) xs (omega arith))) all) in
-    let z = inv .1 (subst (All Zero) (take-take k (k + 1) xs (omega arith)) (all-take Zero k (take (k + 1) xs) all)) in
-    (ap₂ (λ (x y : ℕ). bitOr x y) (z .0) (here .0), ap₂ (λ (x y : ℕ). bitOr x y) (z .1) (here .1)),
+      let here : Zero (getD xs k d) = subst Zero (getD-take (k + 1) xs k d (omega arith)) (all-getD Zero (take (k + 1) xs) k d (omega (arith, length-take-le (k + 1) xs (omega arith))) all) in
+      let z = inv .1 (subst (All Zero) (take-take k (k + 1) xs (omega arith)) (all-take Zero k (take (k + 1) xs) all)) in
+      (ap₂ (λ (x y : ℕ). bitOr x y) (z .0) (here .0), ap₂ (λ (x y : ℕ). bitOr x y) (z .1) (here .1)),
 )

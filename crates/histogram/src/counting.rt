@@ -28,6 +28,13 @@ pub fn count(
     ensures brackets { λ r. ⌜ Bracketed (settings .entry .now) own buckets window at (now (stretch .entry)) r ⌝ }
 {
     let counted = examine(stretch, settings, own, buckets, window, at)?;
-    let low = if counted.buckets == 0 { 0 } else { counted.sizes - counted.oldest + 1 };
-    Some(Figures { low, high: counted.sizes })
+    let low = if counted.buckets == 0 {
+        0
+    } else {
+        counted.sizes - counted.oldest + 1
+    };
+    Some(Figures {
+        low,
+        high: counted.sizes,
+    })
 }

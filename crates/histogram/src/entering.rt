@@ -66,7 +66,14 @@ pub fn enter(
     if tick < was.tick {
         return Err(EnterFault::Early);
     }
-    let Some(kept) = examine(stretch, settings, was.tick, was.buckets, settings.window, tick) else {
+    let Some(kept) = examine(
+        stretch,
+        settings,
+        was.tick,
+        was.buckets,
+        settings.window,
+        tick,
+    ) else {
         return Err(EnterFault::Unsound);
     };
     let weight = was.weight_at(tick);
@@ -76,6 +83,17 @@ pub fn enter(
     if !settings.fits(kept.sizes, arrivals) {
         return Err(EnterFault::Full);
     }
-    let buckets = insert(stretch, settings, was.buckets, kept.buckets, tick, arrivals as usize);
-    Ok(Standing { tick, weight: weight + arrivals, buckets })
+    let buckets = insert(
+        stretch,
+        settings,
+        was.buckets,
+        kept.buckets,
+        tick,
+        arrivals as usize,
+    );
+    Ok(Standing {
+        tick,
+        weight: weight + arrivals,
+        buckets,
+    })
 }

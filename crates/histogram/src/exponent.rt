@@ -17,5 +17,9 @@ pub(crate) fn exponent_for(half: u64, arrivals: u64) -> u32
 pub fn largest_exponent(half: u64, arrivals: u64) -> Option<u32>
     ensures value { λ r. ⌜ Exponent half arrivals r ⌝ }
 {
-    if half == 0 || arrivals == 0 { None } else { Some(exponent_for(half, arrivals)) }
+    if half == 0 || arrivals == 0 {
+        None
+    } else {
+        Some(exponent_for(half, arrivals))
+    }
 }

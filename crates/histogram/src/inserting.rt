@@ -79,10 +79,16 @@ fn put(stretch: &mut [Entry], write: usize, e: u64, tick: u64, new: usize, olds:
     ensures laid { λ _. ⌜ now (stretch .exit) ≡ laid write (map (ofSize e) (replicate new tick ++ now (olds .entry))) (now (stretch .entry)) ⌝ }
 {
     for k in 0..new {
-        stretch[write + k] = Entry { stamp: tick, exponent: e };
+        stretch[write + k] = Entry {
+            stamp: tick,
+            exponent: e,
+        };
     }
     for j in 0..olds.len() {
-        stretch[write + new + j] = Entry { stamp: olds[j], exponent: e };
+        stretch[write + new + j] = Entry {
+            stamp: olds[j],
+            exponent: e,
+        };
     }
 }
 
@@ -90,7 +96,11 @@ fn put(stretch: &mut [Entry], write: usize, e: u64, tick: u64, new: usize, olds:
 fn stays(n: usize, half: usize) -> usize
     ensures value { λ r. ⌜ r ≡ staying half n ⌝ }
 {
-    if n > half { n - 2 * ((n - half) / 2) } else { n }
+    if n > half {
+        n - 2 * ((n - half) / 2)
+    } else {
+        n
+    }
 }
 
 /// The level whose turn it is and all above it, into which its new buckets and the newer of each pair of `olds` come.
@@ -124,7 +134,14 @@ fn raise(stretch: &mut [Entry], turn: Turn, olds: &[u64]) -> usize
         end: turn.end,
     };
     let end = raise(stretch, above, &held[old + spare % 2..c]);
-    put(stretch, turn.write, turn.exponent, turn.tick, turn.new - spare, &held[..old]);
+    put(
+        stretch,
+        turn.write,
+        turn.exponent,
+        turn.tick,
+        turn.new - spare,
+        &held[..old],
+    );
     end
 }
 

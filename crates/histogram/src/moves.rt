@@ -47,7 +47,10 @@ pub(crate) fn zero(stretch: &mut [Entry], from: usize, to: usize)
     ensures zeroed { λ _. ⌜ now (stretch .exit) ≡ laid from (zeros (to - from)) (now (stretch .entry)) ⌝ }
 {
     for k in from..to {
-        stretch[k] = Entry { stamp: 0, exponent: 0 };
+        stretch[k] = Entry {
+            stamp: 0,
+            exponent: 0,
+        };
     }
 }
 

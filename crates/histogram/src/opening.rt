@@ -35,7 +35,12 @@ impl Settings {
         }
         let half = k / 2;
         let top = exponent_for(half, window * cap) as u64;
-        Ok(Settings { half, window, cap, top })
+        Ok(Settings {
+            half,
+            window,
+            cap,
+            top,
+        })
     }
 
     /// How many entries a stretch must have: (l + 1) × (r + 1) + 1.

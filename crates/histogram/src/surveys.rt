@@ -47,7 +47,11 @@ fn oldest_size(buckets: &[Entry], n: usize) -> u64
     requires small { ⌜ All (λ b. b .exponent ≤ 30) (now buckets) ⌝ }
     ensures value { λ c. ⌜ c ≡ oldest 0 (take n (now (buckets .entry))) ⌝ }
 {
-    if n == 0 { 0 } else { 1 << buckets[n - 1].exponent }
+    if n == 0 {
+        0
+    } else {
+        1 << buckets[n - 1].exponent
+    }
 }
 
 /// Of buckets with `sizes` in all, those in the window `window` at `at`. Those outside it are the last.
@@ -63,7 +67,11 @@ fn windowed(buckets: &[Entry], sizes: u64, window: u64, at: u64) -> Survey
         n -= 1;
         left -= 1 << buckets[n].exponent;
     }
-    Survey { buckets: n, sizes: left, oldest: oldest_size(buckets, n) }
+    Survey {
+        buckets: n,
+        sizes: left,
+        oldest: oldest_size(buckets, n),
+    }
 }
 
 /// Examines the buckets in the window `window` at `at`, of a track with `buckets` buckets and own tick `own`; nothing

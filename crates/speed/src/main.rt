@@ -12,7 +12,11 @@ const LINES: u64 = 300_000;
 
 /// Enters lines of one weight at the ticks 0, 1, 2 and so on. Answers the last standing and how many lines were refused.
 fn enter_lines(stretch: &mut [Entry], settings: &Settings, weight: u64) -> (Standing, u64) {
-    let mut standing = Standing { tick: 0, weight: 0, buckets: 0 };
+    let mut standing = Standing {
+        tick: 0,
+        weight: 0,
+        buckets: 0,
+    };
     let mut refused = 0u64;
     for tick in 0..LINES {
         match enter(stretch, settings, standing, tick, weight) {
@@ -27,13 +31,20 @@ fn run(rt: &LibcRuntime, k: u64, window: u64, cap: u64, weight: u64) -> io::Resu
     let Ok(settings) = Settings::new(k, window, cap) else {
         return println!(rt, "no such settings");
     };
-    let mut stretch = [Entry { stamp: 0, exponent: 0 }; 200];
+    let mut stretch = [Entry {
+        stamp: 0,
+        exponent: 0,
+    }; 200];
     let start = std::time::Instant::now(rt)?;
     let (standing, refused) = enter_lines(&mut stretch, &settings, weight);
     let spent = start.elapsed(rt)?.as_nanos();
     let each = spent / 300_000;
     eprintln!(rt, "k {k}, weight {weight}: {each} ns a line")?;
-    println!(rt, "k {k}, N {window}, R {cap}, weight {weight}: {} buckets, {refused} lines refused", standing.buckets)
+    println!(
+        rt,
+        "k {k}, N {window}, R {cap}, weight {weight}: {} buckets, {refused} lines refused",
+        standing.buckets
+    )
 }
 
 fn main(rt: LibcRuntime) -> io::Result<()> {

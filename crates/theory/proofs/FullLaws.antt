@@ -121,9 +121,10 @@ levels-room : (l r : ℕ) (levels : List (List ℕ)) → Canonical l levels → 
     → (length (flat 0 levels) ≤ (l + 1) * (r + 1)) × All (λ b. b .exponent ≤ r) (flat 0 levels)
 levels-room l r levels c h =
     let few : length levels ≤ r + 1 = few-levels l r levels c h in
-    let m : (l + 1) * length levels ≤ (l + 1) * (r + 1) = mul-le-mul-left (l + 1) few in
-    (omega (arith, length-flat l 0 levels c, m),
-    all-weaker (λ b. b .exponent < r + 1) (λ b. b .exponent ≤ r) (λ b q. omega arith) (flat 0 levels) (flat-small (r + 1) 0 levels (omega (arith, few))))
+    let m : (l + 1) * length levels ≤ (l + 1) * (r + 1) = mul-le-mul-left (l + 1) few in (
+      omega (arith, length-flat l 0 levels c, m),
+      all-weaker (λ b. b .exponent < r + 1) (λ b. b .exponent ≤ r) (λ b q. omega arith) (flat 0 levels) (flat-small (r + 1) 0 levels (omega (arith, few))),
+    )
 
 pub insertion-sound : (l r N own t v : ℕ) (bs : List Entry) → 1 ≤ l → 0 < N → own ≤ t → soundBuckets l r N own bs ≡ true
     → total (within N t bs) + v ≤ most l r
@@ -135,14 +136,15 @@ insertion-sound l r N early t v bs one pos le h fits =
     let after = insertions-keep l N t v (ownArrivals bs) (within N t bs) one kept in
     let formed-after = formed-says l t (insertions l v t (within N t bs)) (after .formed) in
     let b = batch-of l t v (within N t bs) one (kept .formed) in
-    let room = levels-room l r (b .levels) (b .canonical) (omega (arith, b .sizes)) in
-    (sound-from l r N t (insertions l v t (within N t bs)) (record {
-      form = formed-after .0;
-      arrived = formed-after .1;
-      live = inserted-live l N t v (within N t bs) one pos (facts .0) (facts .1) (within-live N t bs);
-      small = subst (All (λ b. b .exponent ≤ r)) (sym (b .same)) (room .1);
-    }),
-    omega (arith, ap length (b .same), room .0))
+    let room = levels-room l r (b .levels) (b .canonical) (omega (arith, b .sizes)) in (
+      sound-from l r N t (insertions l v t (within N t bs)) (record {
+        form = formed-after .0;
+        arrived = formed-after .1;
+        live = inserted-live l N t v (within N t bs) one pos (facts .0) (facts .1) (within-live N t bs);
+        small = subst (All (λ b. b .exponent ≤ r)) (sym (b .same)) (room .1);
+      }),
+      omega (arith, ap length (b .same), room .0),
+    )
 
 -- the largest exponent by the arrivals in the window, if no bucket has expired
 small-top : (l p q T X : ℕ) → 1 ≤ p → (l + 1) * q ≤ T + l → (T - q) + 1 ≤ X → X ≤ l * (p - 1) → p ≤ q → ⊥

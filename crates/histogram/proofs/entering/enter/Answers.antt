@@ -63,6 +63,8 @@ returns c =
       value = ap {B = Result Standing EnterFault} (λ (x : Standing). Ok x) is
           ∙ ap (λ (r : Option EnterFault). unless r (record { tick = t; weight = weightBefore was t + v; buckets = length (bucketsAfter s was t v xs) })) (sym accepted);
       after = laid-out ∙ ap (λ (r : Option EnterFault). changed r xs (padded (length xs) (bucketsAfter s was t v xs))) (sym accepted);
-      keeps = (entered-sound s was t v xs (says .0) later fits (c .insert-buckets .result) (c .insert-buckets .last .stretch) many laid-out,
-        entered-keeps s was t v xs (says .0) later fits (c .insert-buckets .result) (c .insert-buckets .last .stretch) many laid-out);
+      keeps = (
+        entered-sound s was t v xs (says .0) later fits (c .insert-buckets .result) (c .insert-buckets .last .stretch) many laid-out,
+        entered-keeps s was t v xs (says .0) later fits (c .insert-buckets .result) (c .insert-buckets .last .stretch) many laid-out,
+      );
     }

@@ -75,10 +75,32 @@ raise-end-requires t c κs =
     subst (λ (z : List ℕ). (up′ + length (newer z)) + length (headOf levels) < (c .args .turn .new + length (newer (c .args .olds .now))) + length (headOf levels) + length (headOf levels)) (sym part)
     (subst (λ (z : ℕ). (z + length (newer (goUp r))) + length (headOf levels) < (c .args .turn .new + length (newer (c .args .olds .now))) + length (headOf levels) + length (headOf levels)) (sym up) less) in
     let all : (c .args .turn .end - (c .args .turn .read + (c .gather-c .result - c .halve-came .result))) + (up′ + length (newer from′)) < (c .args .turn .end - c .args .turn .read) + (c .args .turn .new + length (newer (c .args .olds .now))) =
-    measure-less (c .args .turn .end) (c .args .turn .read) (c .gather-c .result - c .halve-came .result) (length (headOf levels)) up′ (length (newer from′)) (c .args .turn .new) (length (newer (c .args .olds .now))) (g .2) (c .gather-c .ensures .within) less′ in
-    (subst (λ (z : ℕ). (c .args .turn .end - (c .args .turn .read + (c .gather-c .result - c .halve-came .result))) + (up′ + length (newer from′)) < z) (c .measured) all, (c .pre .sizes .0, (c .pre .sizes .1 .0, (omega (arith, c .pre .sizes), (short, (c .gather-c .ensures .within, (c .pre .places .1, (restOf levels,
-      raise-next r some up′ (c .args .turn .exponent + 1) (c .args .turn .write + c .stays-stay .result) (c .args .turn .read + (c .gather-c .result - c .halve-came .result))
-      from′ up (omega arith) (omega (arith, st)) (omega (arith, g .2)) part))))))))
+    measure-less (c .args .turn .end) (c .args .turn .read) (c .gather-c .result - c .halve-came .result) (length (headOf levels)) up′ (length (newer from′)) (c .args .turn .new) (length (newer (c .args .olds .now))) (g .2) (c .gather-c .ensures .within) less′ in (
+      subst (λ (z : ℕ). (c .args .turn .end - (c .args .turn .read + (c .gather-c .result - c .halve-came .result))) + (up′ + length (newer from′)) < z) (c .measured) all,
+      (
+        c .pre .sizes .0,
+        (
+          c .pre .sizes .1 .0,
+          (
+            omega (arith, c .pre .sizes),
+            (
+              short,
+              (
+                c .gather-c .ensures .within,
+                (
+                  c .pre .places .1,
+                  (
+                    restOf levels,
+                    raise-next r some up′ (c .args .turn .exponent + 1) (c .args .turn .write + c .stays-stay .result) (c .args .turn .read + (c .gather-c .result - c .halve-came .result))
+                        from′ up (omega arith) (omega (arith, st)) (omega (arith, g .2)) part,
+                  ),
+                ),
+              ),
+            ),
+          ),
+        ),
+      ),
+    )
 
 pub put-requires : need.put-requires
 put-requires t c κs =
@@ -90,32 +112,32 @@ put-requires t c κs =
     let st : c .stays-stay .result ≡ stayAt r = c .stays-stay .ensures .value ∙ ap (staying (c .args .turn .half)) n in
     record {
       room = put-fits (c .args .turn .write) (c .args .turn .new) (c .saturating-sub-spare .result) (c .saturating-sub-old .result) (c .stays-stay .result) (length (c .raise-end .last .stretch)) h₂
-    (c .saturating-sub-spare .ensures) (c .saturating-sub-old .ensures) (omega (arith, st, next-length r some, r .room, c .raise-end .kept .stretch));
+          (c .saturating-sub-spare .ensures) (c .saturating-sub-old .ensures) (omega (arith, st, next-length r some, r .room, c .raise-end .kept .stretch));
     }
 
 pub returns : need.returns
 returns t c = record {
   raised = λ levels r.
-    let h₂ = c .gather-c .last .held in
-    let g = raise-gathered r (c .halve-came .result) (c .gather-c .result) (c .halve-came .last .held) h₂ (c .halve-came .ensures .holds) (c .halve-came .ensures .many) (c .gather-c .ensures .holds) (c .gather-c .ensures .many) in
-    let some : 1 ≤ c .args .turn .new + length (stampsAt r) = raise-some r (c .if-turn-olds-eq0 .left) in
-    let n : c .args .turn .new + c .gather-c .result ≡ c .args .turn .new + length (stampsAt r) = omega (arith, g .1) in
-    let st : c .stays-stay .result ≡ stayAt r = c .stays-stay .ensures .value ∙ ap (staying (c .args .turn .half)) n in
-    let cut : ℕ = c .saturating-sub-old .result + c .saturating-sub-spare .result % 2 in
-    let sp : c .saturating-sub-spare .result ≡ c .args .turn .new - stayAt r = c .saturating-sub-spare .ensures ∙ ap (λ (z : ℕ). c .args .turn .new - z) st in
-    let ol : c .saturating-sub-old .result ≡ stayAt r - c .args .turn .new = c .saturating-sub-old .ensures ∙ ap (λ (z : ℕ). z - c .args .turn .new) st in
-    let cut-is : cut ≡ (stayAt r - c .args .turn .new) + (c .args .turn .new - stayAt r) % 2 = ap₂ (λ (y z : ℕ). y + z % 2) ol sp in
-    let part : take (c .gather-c .result - cut) (drop cut h₂) ≡ goUp r = part-is h₂ (stampsAt r) cut (c .gather-c .result) ((stayAt r - c .args .turn .new) + (c .args .turn .new - stayAt r) % 2) (g .0) cut-is in
-    let up : (c .saturating-sub-spare .result + 1) / 2 ≡ ups (c .args .turn .half) (c .args .turn .new) (stampsAt r) = ap (λ (z : ℕ). (z + 1) / 2) sp in
-    let i′ : ℕ = c .args .turn .read + (c .gather-c .result - c .halve-came .result) in
-    let above = c .raise-end .ensures .raised (restOf levels) (raise-next r some ((c .saturating-sub-spare .result + 1) / 2) (c .args .turn .exponent + 1) (c .args .turn .write + c .stays-stay .result) i′
-    (take (c .gather-c .result - cut) (drop cut h₂)) up (omega arith) (omega (arith, st)) (omega (arith, g .2)) part) in
-    let done = raise-done r some ((c .saturating-sub-spare .result + 1) / 2) (c .args .turn .exponent + 1) (c .args .turn .write + c .stays-stay .result) (take (c .gather-c .result - cut) (drop cut h₂))
-    up (omega arith) (omega (arith, st)) part (c .raise-end .last .stretch) (c .raise-end .result) (above .0) (above .1) in
-    let fewer : c .args .turn .new - c .saturating-sub-spare .result ≡ min (stayAt r) (c .args .turn .new) = omega (arith, sp) in
-    let front : take (c .saturating-sub-old .result) h₂ ≡ take (stayAt r - c .args .turn .new) (stampsAt r) =
-    front-is h₂ (stampsAt r) (c .saturating-sub-old .result) (c .gather-c .result) (stayAt r - c .args .turn .new) (g .0) ol (omega (arith, ol, g .1)) in
-    let written : replicate (c .args .turn .new - c .saturating-sub-spare .result) (c .args .turn .tick) ++ take (c .saturating-sub-old .result) h₂ ≡ stay (c .args .turn .half) (c .args .turn .new) (c .args .turn .tick) (stampsAt r) =
-    ap₂ (λ (y : ℕ) (z : List ℕ). replicate y (c .args .turn .tick) ++ z) fewer front in
-    (c .put .ensures .laid ∙ ap (λ (z : List ℕ). laid (c .args .turn .write) (map (ofSize (c .args .turn .exponent)) z) (c .raise-end .last .stretch)) written ∙ done .0, done .1)
+      let h₂ = c .gather-c .last .held in
+      let g = raise-gathered r (c .halve-came .result) (c .gather-c .result) (c .halve-came .last .held) h₂ (c .halve-came .ensures .holds) (c .halve-came .ensures .many) (c .gather-c .ensures .holds) (c .gather-c .ensures .many) in
+      let some : 1 ≤ c .args .turn .new + length (stampsAt r) = raise-some r (c .if-turn-olds-eq0 .left) in
+      let n : c .args .turn .new + c .gather-c .result ≡ c .args .turn .new + length (stampsAt r) = omega (arith, g .1) in
+      let st : c .stays-stay .result ≡ stayAt r = c .stays-stay .ensures .value ∙ ap (staying (c .args .turn .half)) n in
+      let cut : ℕ = c .saturating-sub-old .result + c .saturating-sub-spare .result % 2 in
+      let sp : c .saturating-sub-spare .result ≡ c .args .turn .new - stayAt r = c .saturating-sub-spare .ensures ∙ ap (λ (z : ℕ). c .args .turn .new - z) st in
+      let ol : c .saturating-sub-old .result ≡ stayAt r - c .args .turn .new = c .saturating-sub-old .ensures ∙ ap (λ (z : ℕ). z - c .args .turn .new) st in
+      let cut-is : cut ≡ (stayAt r - c .args .turn .new) + (c .args .turn .new - stayAt r) % 2 = ap₂ (λ (y z : ℕ). y + z % 2) ol sp in
+      let part : take (c .gather-c .result - cut) (drop cut h₂) ≡ goUp r = part-is h₂ (stampsAt r) cut (c .gather-c .result) ((stayAt r - c .args .turn .new) + (c .args .turn .new - stayAt r) % 2) (g .0) cut-is in
+      let up : (c .saturating-sub-spare .result + 1) / 2 ≡ ups (c .args .turn .half) (c .args .turn .new) (stampsAt r) = ap (λ (z : ℕ). (z + 1) / 2) sp in
+      let i′ : ℕ = c .args .turn .read + (c .gather-c .result - c .halve-came .result) in
+      let above = c .raise-end .ensures .raised (restOf levels) (raise-next r some ((c .saturating-sub-spare .result + 1) / 2) (c .args .turn .exponent + 1) (c .args .turn .write + c .stays-stay .result) i′
+      (take (c .gather-c .result - cut) (drop cut h₂)) up (omega arith) (omega (arith, st)) (omega (arith, g .2)) part) in
+      let done = raise-done r some ((c .saturating-sub-spare .result + 1) / 2) (c .args .turn .exponent + 1) (c .args .turn .write + c .stays-stay .result) (take (c .gather-c .result - cut) (drop cut h₂))
+      up (omega arith) (omega (arith, st)) part (c .raise-end .last .stretch) (c .raise-end .result) (above .0) (above .1) in
+      let fewer : c .args .turn .new - c .saturating-sub-spare .result ≡ min (stayAt r) (c .args .turn .new) = omega (arith, sp) in
+      let front : take (c .saturating-sub-old .result) h₂ ≡ take (stayAt r - c .args .turn .new) (stampsAt r) =
+      front-is h₂ (stampsAt r) (c .saturating-sub-old .result) (c .gather-c .result) (stayAt r - c .args .turn .new) (g .0) ol (omega (arith, ol, g .1)) in
+      let written : replicate (c .args .turn .new - c .saturating-sub-spare .result) (c .args .turn .tick) ++ take (c .saturating-sub-old .result) h₂ ≡ stay (c .args .turn .half) (c .args .turn .new) (c .args .turn .tick) (stampsAt r) =
+      ap₂ (λ (y : ℕ) (z : List ℕ). replicate y (c .args .turn .tick) ++ z) fewer front in
+      (c .put .ensures .laid ∙ ap (λ (z : List ℕ). laid (c .args .turn .write) (map (ofSize (c .args .turn .exponent)) z) (c .raise-end .last .stretch)) written ∙ done .0, done .1);
 }

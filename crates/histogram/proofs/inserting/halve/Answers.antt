@@ -19,9 +19,11 @@ loop-n-again c =
     let from = c .args .olds .now in
     let n = c .loop-n .n in
     let next : newer (drop (2 * n) from) ≡ getD from (2 * n) 0 ∷ newer (drop (2 * (n + 1)) from) =
-    newer-next from (2 * n) (omega arith) ∙ ap (λ (k : ℕ). getD from (2 * n) 0 ∷ newer (drop k from)) (omega arith) in
-    (moved (c .loop-n .held) n (getD from (2 * n) 0) (newer (drop (2 * n) from)) (newer (drop (2 * (n + 1)) from)) (newer from)
-    (omega (arith, length-newer-is from, c .pre .room, c .loop-n .kept .held)) next (c .loop-n .inv .0), omega arith)
+    newer-next from (2 * n) (omega arith) ∙ ap (λ (k : ℕ). getD from (2 * n) 0 ∷ newer (drop k from)) (omega arith) in (
+      moved (c .loop-n .held) n (getD from (2 * n) 0) (newer (drop (2 * n) from)) (newer (drop (2 * (n + 1)) from)) (newer from)
+          (omega (arith, length-newer-is from, c .pre .room, c .loop-n .kept .held)) next (c .loop-n .inv .0),
+      omega arith,
+    )
 
 pub returns : need.returns
 returns c =

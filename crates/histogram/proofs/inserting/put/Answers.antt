@@ -52,8 +52,8 @@ returns c =
     let first : c .loop-k .stretch ≡ laid o ws xs = c .loop-k .inv ∙ ap (λ (z : ℕ). laid o (map (ofSize e) (replicate z (c .args .tick))) xs) k in
     record {
       laid = c .loop-j .inv
-      ∙ ap (λ (z : List ℕ). laid (o + c .args .new) (map (ofSize e) z) (c .loop-k .stretch)) (take-all (c .loop-j .j) olds (omega arith))
-      ∙ ap (λ (z : List Entry). laid (o + c .args .new) (map (ofSize e) olds) z) first
-      ∙ laid-after o (o + c .args .new) ws (map (ofSize e) olds) xs n (omega arith)
-      ∙ ap (λ (z : List Entry). laid o z xs) (sym (map-append (ofSize e) (replicate (c .args .new) (c .args .tick)) olds))
+          ∙ ap (λ (z : List ℕ). laid (o + c .args .new) (map (ofSize e) z) (c .loop-k .stretch)) (take-all (c .loop-j .j) olds (omega arith))
+          ∙ ap (λ (z : List Entry). laid (o + c .args .new) (map (ofSize e) olds) z) first
+          ∙ laid-after o (o + c .args .new) ws (map (ofSize e) olds) xs n (omega arith)
+          ∙ ap (λ (z : List Entry). laid o z xs) (sym (map-append (ofSize e) (replicate (c .args .new) (c .args .tick)) olds));
     }

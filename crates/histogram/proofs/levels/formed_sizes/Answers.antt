@@ -48,5 +48,9 @@ returns c =
     let s = c .args .settings .now in
     let rest = c .loop-rest .rest .now in
     let over : rest ≡ [] = nil-from-length rest (eqb-true (length rest) 0 (sym (c .loop-rest-test .ensures tt))) in
-    record { value = (c .loop-rest .inv .1 (subst (Tail (s .half) (s .top) (c .loop-rest .e) (c .loop-rest .last)) (sym over) (tail-end (s .half) (s .top) (c .loop-rest .e) (c .loop-rest .last) (c .loop-rest .inv .4))),
-      omega (arith, ap total over, c .loop-rest .inv .2)) }
+    record {
+      value = (
+        c .loop-rest .inv .1 (subst (Tail (s .half) (s .top) (c .loop-rest .e) (c .loop-rest .last)) (sym over) (tail-end (s .half) (s .top) (c .loop-rest .e) (c .loop-rest .last) (c .loop-rest .inv .4))),
+        omega (arith, ap total over, c .loop-rest .inv .2),
+      );
+    }

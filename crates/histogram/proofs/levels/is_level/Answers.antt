@@ -20,8 +20,8 @@ returns-then-bucket-e c =
     let here = drop-more xs k zeroEntry (c .loop-bucket-test .taken) in
     let no : (getD xs k zeroEntry .exponent ≡ c .args .e → ⊥) ⊎ (c .loop-bucket .before < getD xs k zeroEntry .stamp) =
     elim (c .then-bucket-e .came) [
-      then-bucket-e·by·then-bucket-e w ↦ inl (w .if-bucket-e .taken)
-    | then-bucket-e·by·else-bucket-e·then-bucket-before w ↦ inr (w .if-bucket-before .taken)
+      | then-bucket-e·by·then-bucket-e w ↦ inl (w .if-bucket-e .taken)
+      | then-bucket-e·by·else-bucket-e·then-bucket-before w ↦ inr (w .if-bucket-before .taken)
     ] in
     record { value = sym (level-no (c .args .e) (c .loop-bucket .before) (getD xs k zeroEntry) (drop (k + 1) xs) (drop k xs) here no) ∙ c .loop-bucket .inv }
 

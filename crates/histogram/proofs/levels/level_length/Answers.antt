@@ -15,16 +15,16 @@ use Rattle.histogram.proofs.levels.level_length.Needs as need
 pub returns-then-not-is-level : need.returns-then-not-is-level
 returns-then-not-is-level c = record {
   value = λ r t.
-    let rest = c .args .rest .now in
-    let sure = c .min-sure .result in
-    let front : levelled (c .args .e) (c .args .last) (take sure rest) ≡ true = tail-front (c .args .half) r (c .args .e) (c .args .last) rest t sure (omega arith) (omega arith) in
-    let z : sure - 0 ≡ sure = omega arith in
-    false≢true (sym (c .if-not-is-level .taken) ∙ c .is-level .ensures .value ∙ ap (λ (n : ℕ). levelled (c .args .e) (c .args .last) (take n rest)) z ∙ front)
+      let rest = c .args .rest .now in
+      let sure = c .min-sure .result in
+      let front : levelled (c .args .e) (c .args .last) (take sure rest) ≡ true = tail-front (c .args .half) r (c .args .e) (c .args .last) rest t sure (omega arith) (omega arith) in
+      let z : sure - 0 ≡ sure = omega arith in
+      false≢true (sym (c .if-not-is-level .taken) ∙ c .is-level .ensures .value ∙ ap (λ (n : ℕ). levelled (c .args .e) (c .args .last) (take n rest)) z ∙ front);
 }
 
 pub returns-then-next-rest : need.returns-then-next-rest
 returns-then-next-rest c = record {
-  value = λ r t. tail-rises (c .args .half) r (c .args .e) (c .args .last) (c .min-sure .result) (c .args .rest .now) zeroEntry (omega arith) (omega arith) (c .if-next-rest .taken) t
+  value = λ r t. tail-rises (c .args .half) r (c .args .e) (c .args .last) (c .min-sure .result) (c .args .rest .now) zeroEntry (omega arith) (omega arith) (c .if-next-rest .taken) t;
 }
 
 pub returns-then-next-e : need.returns-then-next-e
@@ -42,5 +42,5 @@ returns-then-next-e c =
         inside = omega arith;
         filled = λ _. omega arith;
         ends = inl (omega arith);
-      }
+      };
     }

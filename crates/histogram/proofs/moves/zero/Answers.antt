@@ -22,11 +22,14 @@ loop-k-again c =
     let k = c .loop-k .k in
     let xs = c .args .stretch .now in
     let at : from + length (zeros (k - from)) ≡ k = omega (arith, length-replicate (k - from) zeroEntry, c .loop-k .inv .1) in
-    let one : (k - from) + 1 ≡ k + 1 - from = omega (arith, c .loop-k .inv .1) in
-    (ap (λ (z : List Entry). set z k zeroEntry) (c .loop-k .inv .0)
-    ∙ ap (λ (z : ℕ). set (laid from (zeros (k - from)) xs) z zeroEntry) (sym at)
-    ∙ laid-more from (zeros (k - from)) xs zeroEntry (omega arith)
-    ∙ ap (λ (z : List Entry). laid from z xs) (replicate-more (k - from) zeroEntry ∙ ap zeros one), omega arith, omega arith)
+    let one : (k - from) + 1 ≡ k + 1 - from = omega (arith, c .loop-k .inv .1) in (
+      ap (λ (z : List Entry). set z k zeroEntry) (c .loop-k .inv .0)
+          ∙ ap (λ (z : ℕ). set (laid from (zeros (k - from)) xs) z zeroEntry) (sym at)
+          ∙ laid-more from (zeros (k - from)) xs zeroEntry (omega arith)
+          ∙ ap (λ (z : List Entry). laid from z xs) (replicate-more (k - from) zeroEntry ∙ ap zeros one),
+      omega arith,
+      omega arith,
+    )
 
 pub returns : need.returns
 returns c =

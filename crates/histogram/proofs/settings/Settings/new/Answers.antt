@@ -19,11 +19,23 @@ ghost-result c =
     let p = product (c .args .window) (c .args .cap) (omega arith) (omega arith) (omega arith) (omega arith) in
     let e = c .exponent-for-top .ensures in (
       omega arith,
-      (omega arith,
-      (omega arith,
-      (omega arith,
-      (omega arith,
-      (omega arith,
-      (at-most-30 (c .args .k / 2) (c .args .window * c .args .cap) (c .exponent-for-top .result) (omega arith) (p .1) (e .value .below),
-      (e .value .below, (e .next, tt)))))))),
+      (
+        omega arith,
+        (
+          omega arith,
+          (
+            omega arith,
+            (
+              omega arith,
+              (
+                omega arith,
+                (
+                  at-most-30 (c .args .k / 2) (c .args .window * c .args .cap) (c .exponent-for-top .result) (omega arith) (p .1) (e .value .below),
+                  (e .value .below, (e .next, tt)),
+                ),
+              ),
+            ),
+          ),
+        ),
+      ),
     )

@@ -1,0 +1,3 @@
+mod NumberLaws
+mod SizeLaws
+pub mod CountLaws
