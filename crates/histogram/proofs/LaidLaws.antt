@@ -5,8 +5,10 @@ use native.Mathlib.Omega.{arith}
 use Prim.Native.Nat.{_+_, _-_, _/_, _<_, _≤_, suc, zero, ℕ}
 use lib.Dec.{eqb}
 use lib.ListN.{drop, getD, length, set, take}
+use lib.Seq.{paste}
 use Rattle.histogram.specs.Raising.{laid, ownOf}
-use Rattle.std.proofs.shelf.Lists.{append-nil, drop-at, drop-drop, drop-more, getD-append-left, getD-append-right, getD-drop, getD-take, length-append, length-drop, length-push, length-take-le, set-append-right, take-append-drop, take-append-le, take-at, take-more, take-more-set, take-take}
+use Rattle.std.proofs.shelf.Lists.{append-nil, drop-at, drop-drop, drop-more, getD-take, length-append, length-drop, length-push, length-take-le, set-append-right, take-append-drop, take-append-le, take-at, take-more-set, take-take}
+use Rattle.std.proofs.shelf.Parts.{between-is}
 use Rattle.std.proofs.shelf.Tests.{cond-false, cond-true, eq-eqb, ne-eqb}
 use Rattle.theory.specs.Levels.{newer}
 use Rattle.theory.specs.declared.entries.Entry.{Entry}
@@ -87,12 +89,6 @@ module _ {X : Type 0} where
       ap₂ (λ (x y : List X). x ++ (ws ++ y)) a (b ∙ ap (λ k. vs ++ drop k xs) n)
       ∙ ap (λ r. take o xs ++ r) (sym (append-assoc ws vs (drop (o + length (ws ++ vs)) xs)))
 
-  pub drop-laid : (o : ℕ) (ws xs : List X) → o ≤ length xs → drop (o + length ws) (laid o ws xs) ≡ drop (o + length ws) xs
-  drop-laid o ws xs h =
-      let front : length (take o xs ++ ws) ≡ o + length ws = omega (arith, length-append (take o xs) ws, length-take-le o xs h) in
-      ap (drop (o + length ws)) (sym (append-assoc (take o xs) ws (drop (o + length ws) xs)))
-      ∙ drop-at (take o xs ++ ws) (drop (o + length ws) xs) (o + length ws) front
-
   -- what lies above is written after what lies below
   pub laid-after : (o q : ℕ) (ws vs xs : List X) → q ≡ o + length ws → q ≤ length xs
       → laid q vs (laid o ws xs) ≡ laid o (ws ++ vs) xs
@@ -135,29 +131,9 @@ all-moved held all n left e w h =
     let q : take n held ≡ all = sym (append-nil (take n held)) ∙ ap (λ r. take n held ++ r) (sym e) ∙ w in
     (q, sym (length-take-le n held h) ∙ ap length q)
 
-module _ {X : Type 0} where
-  pub getD-laid-before : (o : ℕ) (ws xs : List X) (j : ℕ) (d : X) → j < o → o ≤ length xs → getD (laid o ws xs) j d ≡ getD xs j d
-  getD-laid-before o ws xs j d h g =
-      getD-append-left (take o xs) (ws ++ drop (o + length ws) xs) d j (omega (arith, length-take-le o xs g)) ∙ getD-take o xs j d h
-
-  pub getD-laid-after : (o : ℕ) (ws xs : List X) (j : ℕ) (d : X) → o ≤ length xs → o + length ws ≤ j → getD (laid o ws xs) j d ≡ getD xs j d
-  getD-laid-after o ws xs j d g h =
-      let rest : List X = drop (o + length ws) xs in
-      let front : length (take o xs ++ ws) ≡ o + length ws = omega (arith, length-append (take o xs) ws, length-take-le o xs g) in
-      let at : (o + length ws) + (j - (o + length ws)) ≡ j = omega arith in
-      ap (λ (ys : List X). getD ys j d) (sym (append-assoc (take o xs) ws rest))
-      ∙ getD-append-right (take o xs ++ ws) rest (o + length ws) j d front h
-      ∙ getD-drop (o + length ws) xs (j - (o + length ws)) d ∙ ap (λ (k : ℕ). getD xs k d) at
-
-  -- one more written in front of what is written
-  pub laid-front : (q : ℕ) (ws xs : List X) (x : X) → q + suc (length ws) ≤ length xs → set (laid (q + 1) ws xs) q x ≡ laid q (x ∷ ws) xs
-  laid-front q ws xs x h =
-      let rest : List X = drop (q + 1 + length ws) xs in
-      let n : q + 1 + length ws ≡ q + length (x ∷ ws) = omega arith in
-      let front : length (take q xs) ≡ q = length-take-le q xs (omega arith) in
-      let at : q - q ≡ 0 = omega arith in
-      ap (λ (ys : List X). set (ys ++ (ws ++ rest)) q x) (take-more xs q x (omega arith))
-      ∙ ap (λ (ys : List X). set ys q x) (append-assoc (take q xs) (getD xs q x ∷ []) (ws ++ rest))
-      ∙ set-append-right (take q xs) (getD xs q x ∷ (ws ++ rest)) q q x front (omega arith)
-      ∙ ap (λ (k : ℕ). take q xs ++ set (getD xs q x ∷ (ws ++ rest)) k x) at
-      ∙ ap (λ (k : ℕ). take q xs ++ (x ∷ (ws ++ drop k xs))) n
+-- a part of the list, copied to another place
+pub copied : {X : Type 0} (xs : List X) (o i b : ℕ) → i ≤ b → b ≤ length xs → paste xs o (drop i xs) (b - i) ≡ laid o (drop i (take b xs)) xs
+copied {X} xs o i b h g =
+    let n : b - i ≡ length (drop i (take b xs)) = omega (arith, length-drop i (take b xs), length-take-le b xs g) in
+    append-assoc (take o xs) (take (b - i) (drop i xs)) (drop (o + (b - i)) xs)
+    ∙ ap₂ (λ (zs : List X) (k : ℕ). take o xs ++ (zs ++ drop (o + k) xs)) (between-is xs i b) n

@@ -3,7 +3,6 @@ pub mod EnterLaws
 pub mod ExponentLaws
 pub mod InsertLaws
 pub mod LaidLaws
-pub mod MoveLaws
 pub mod RaiseLaws
 pub mod StretchLaws
 pub mod SurveyLaws

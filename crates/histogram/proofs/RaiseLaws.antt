@@ -6,7 +6,6 @@ use Prim.Native.Nat.{_%_, _*_, _+_, _-_, _<_, _≤_, min, suc, ℕ}
 use lib.Dec.{eqb}
 use lib.ListN.{drop, length, replicate, take}
 use Rattle.histogram.proofs.LaidLaws.{laid-under, length-newer-is}
-use Rattle.histogram.proofs.MoveLaws.{part}
 use Rattle.histogram.specs.Raising.{Ready, incoming, laid, ofSize, ownOf, raised}
 use Rattle.histogram.specs.Settings.{room}
 use Rattle.std.proofs.shelf.Lists.{drop-drop, length-append, length-drop, length-map, length-replicate, length-take, length-take-le, nil-from-length, take-take}
@@ -59,10 +58,6 @@ head-few l (ss ∷ rest) c = c .1
 rest-canon : (l : ℕ) (levels : List (List ℕ)) → Canonical l levels → Canonical l (restOf levels)
 rest-canon l [] c = tt
 rest-canon l (ss ∷ rest) c = c .3
-
-no-head : (l : ℕ) (levels : List (List ℕ)) → Canonical l levels → length (headOf levels) ≡ 0 → levels ≡ []
-no-head l [] c h = refl
-no-head l (ss ∷ rest) c h = absurd (omega arith)
 
 len-stay : (l m t : ℕ) (olds : List ℕ) → length (stay l m t olds) ≡ staying l (m + length olds)
 len-stay l m t olds =

@@ -1,5 +1,4 @@
 //! Moving a part of a stretch, and zeroing one.
-ghost use mathlib.Core.List.{_++_};
 ghost use mathlib.Core.Path.{_≡_};
 ghost use Prim.Native.Nat.{_+_, _-_, _≤_};
 ghost use lib.ListN.{length, take, drop};
@@ -7,38 +6,12 @@ ghost use Rattle.theory.specs.Sound.{zeros};
 ghost use Rattle.histogram.specs.Raising.{laid};
 use theory::Entry;
 
-/// Moves the entries from `i` to `b` down to `o`.
-fn move_down(stretch: &mut [Entry], i: usize, b: usize, o: usize)
-    requires places { ⌜ o ≤ i ⌝ ∗ ⌜ i ≤ b ⌝ ∗ ⌜ b ≤ length (now stretch) ⌝ }
-    ensures moved { λ _. ⌜ now (stretch .exit) ≡ laid o (drop i (take b (now (stretch .entry)))) (now (stretch .entry)) ⌝ }
-{
-    for k in i..b {
-        stretch[o + (k - i)] = stretch[k];
-    }
-}
-
-/// Moves the entries from `i` to `b` up to `o`, the last of them first.
-fn move_up(stretch: &mut [Entry], i: usize, b: usize, o: usize)
-    requires places { ⌜ i ≤ o ⌝ ∗ ⌜ i ≤ b ⌝ ∗ ⌜ o + (b - i) ≤ length (now stretch) ⌝ }
-    ensures moved { λ _. ⌜ now (stretch .exit) ≡ laid o (drop i (take b (now (stretch .entry)))) (now (stretch .entry)) ⌝ }
-{
-    let mut k = b;
-    while k > i {
-        k -= 1;
-        stretch[o + (k - i)] = stretch[k];
-    }
-}
-
 /// Moves the entries from `i` to `b` to `o`.
 pub(crate) fn move_to(stretch: &mut [Entry], i: usize, b: usize, o: usize)
     requires places { ⌜ i ≤ b ⌝ ∗ ⌜ b ≤ length (now stretch) ⌝ ∗ ⌜ o + (b - i) ≤ length (now stretch) ⌝ }
     ensures moved { λ _. ⌜ now (stretch .exit) ≡ laid o (drop i (take b (now (stretch .entry)))) (now (stretch .entry)) ⌝ }
 {
-    if o < i {
-        move_down(stretch, i, b, o)
-    } else if i < o {
-        move_up(stretch, i, b, o)
-    }
+    stretch.copy_within(i..b, o);
 }
 
 /// Zeroes the entries from `from` to `to`.

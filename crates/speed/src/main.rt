@@ -8,7 +8,7 @@ use histogram::enter;
 use std::io;
 
 /// How many lines are timed.
-const LINES: u64 = 300_000;
+const LINES: u64 = 100_000;
 
 /// Enters lines of one weight at the ticks 0, 1, 2 and so on. Answers the last standing and how many lines were refused.
 fn enter_lines(stretch: &mut [Entry], settings: &Settings, weight: u64) -> (Standing, u64) {
@@ -38,7 +38,7 @@ fn run(rt: &LibcRuntime, k: u64, window: u64, cap: u64, weight: u64) -> io::Resu
     let start = std::time::Instant::now(rt)?;
     let (standing, refused) = enter_lines(&mut stretch, &settings, weight);
     let spent = start.elapsed(rt)?.as_nanos();
-    let each = spent / 300_000;
+    let each = spent / 100_000;
     eprintln!(rt, "k {k}, weight {weight}: {each} ns a line")?;
     println!(
         rt,

@@ -88,7 +88,3 @@ module _ (N t t′ : ℕ) (us : List ℕ) (falls : Falling us) where
       (λ q. cond-false (ltb t′ (b .stamp + N)) (b ∷ kept N t′ bs) [] q
       ∙ sym (none-within N t us falls N t′ (p + size b) bs
       (λ k le lt. gone-from p (rw (h .1) (ltb-false t′ (b .stamp + N) q)) k (omega arith) lt) (h .2)))
-
-pub trim-stands : (N t t′ : ℕ) (us : List ℕ) (levels : List (List ℕ)) → Falling us → t ≤ t′
-    → Stands N t us 0 (flat 0 levels) → Stands N t′ us 0 (flat 0 (trim N t′ levels))
-trim-stands N t t′ us levels f le h = rw (flat-trim N t′ 0 levels) (kept-stands N t t′ us f le 0 (flat 0 levels) h)

@@ -106,7 +106,3 @@ formed-levels l levels c f = record {
   enough = λ e lt. enough-flat l e 0 levels c (omega arith) (omega (arith, top-levels l levels c e lt));
   few = λ e. few-flat l e 0 levels c;
 }
-
-pub canon-sound : (l N t : ℕ) (us : List ℕ) (levels : List (List ℕ)) → Canonical l levels → Falling us
-    → Stands N t us 0 (flat 0 levels) → Formed l (flat 0 levels)
-canon-sound l N t us levels c f h = formed-levels l levels c (stamps-fall us f N t 0 (flat 0 levels) h)

@@ -4,7 +4,6 @@ use native.Mathlib.Omega.{arith}
 use Prim.Native.Nat.{_%_, _*_, _+_, _-_, _/_, _<_, _≤_, min, ℕ}
 use lib.ListN.{drop, length, replicate, take}
 use Rattle.histogram.proofs.LaidLaws.{length-newer-is, moved}
-use Rattle.histogram.proofs.MoveLaws.{part}
 use Rattle.histogram.proofs.RaiseLaws.{front-is, goUp, head-few, headOf, held-few, its-own, measure-less, next-length, part-is, put-fits, raise-done, raise-fits, raise-gathered, raise-less, raise-next, raise-none, raise-some, restOf, stampsAt, stayAt}
 use Rattle.histogram.specs.Raising.{laid, ofSize, raised}
 use Rattle.histogram.specs.Settings.{room}

@@ -1,5 +1,4 @@
 use native.Mathlib.Omega.{arith}
-use Rattle.histogram.proofs.MoveLaws.{part}
 use Rattle.histogram.proofs.ZeroLaws.{zeros-else, zeros-more, zeros-then}
 use Rattle.std.proofs.shelf.Lists.{take-all}
 use Rattle.std.specs.Reads.{value}

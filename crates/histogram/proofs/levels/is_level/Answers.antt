@@ -3,7 +3,6 @@ use mathlib.Core.Path.{_∙_, _≡_, ap, sym}
 use native.Mathlib.Omega.{arith}
 use Prim.Native.Nat.{_+_, _<_}
 use lib.ListN.{drop, getD}
-use Rattle.histogram.proofs.MoveLaws.{part}
 use Rattle.histogram.proofs.TailLaws.{level-no, level-yes}
 use Rattle.histogram.specs.Tails.{levelled}
 use Rattle.std.proofs.shelf.Lists.{drop-all, drop-more}

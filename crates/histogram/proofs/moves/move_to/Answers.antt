@@ -1,8 +1,7 @@
-use native.Mathlib.Omega.{arith}
-use Rattle.histogram.proofs.LaidLaws.{moved}
-use Rattle.histogram.proofs.MoveLaws.{part-stays}
+use mathlib.Core.Path.{_∙_}
+use Rattle.histogram.proofs.LaidLaws.{copied, moved}
 use denote.Ref.{now}
 use Rattle.histogram.proofs.moves.move_to.Needs as need
 
-pub returns-else-i-o : need.returns-else-i-o
-returns-else-i-o c = record { moved = part-stays (c .args .i) (c .args .b) (c .args .o) (c .args .stretch .now) (omega arith) (omega arith) (omega arith) }
+pub returns : need.returns
+returns c = record { moved = c .copy-within .ensures .after ∙ copied (c .args .stretch .now) (c .args .o) (c .args .i) (c .args .b) (c .pre .places .0) (c .pre .places .1 .0) }
