@@ -1,8 +1,8 @@
 -- One level of the insertion.
 use mathlib.Core.List.{List, [], _++_, _∷_, map}
-use mathlib.Core.Path.{_∙_, _≡_, ap, refl, sym}
+use mathlib.Core.Path.{_∙_, _≡_, ap, ap₂, refl, sym}
 use native.Mathlib.Omega.{arith}
-use Prim.Native.Nat.{_%_, _*_, _+_, _-_, _<_, _≤_, min, suc, ℕ}
+use Prim.Native.Nat.{_%_, _*_, _+_, _-_, _/_, _<_, _≤_, min, suc, ℕ}
 use lib.Dec.{eqb}
 use lib.ListN.{drop, length, replicate, take}
 use Rattle.histogram.proofs.LaidLaws.{laid-under, length-newer-is}
@@ -78,6 +78,18 @@ module _ (l t m : ℕ) (from : List ℕ) (levels : List (List ℕ)) where
           → pushAll l (incoming m t from) ls ≡ stay l m t (newer from ++ headOf ls) ∷ pushAll l (replicate (ups l m (newer from ++ headOf ls)) t ++ upOlds l m (newer from ++ headOf ls)) (restOf ls)
       go [] c h = new-level′ l (replicate m t ++ newer from) (omega (arith, length-copies m t (newer from), length-append (newer from) [])) ∙ batch-level l m t (newer from) [] [] (omega arith)
       go (ss ∷ rest) c h = batch-level l m t (newer from) ss rest (c .1)
+
+part-is : {X : Type 0} (xs ys : List X) (a c cut : ℕ) → take c xs ≡ ys → a ≡ cut → take (c - a) (drop a xs) ≡ drop cut ys
+part-is xs ys a c cut h q = between-is xs a c ∙ rw (h, q) refl
+
+front-is : {X : Type 0} (xs ys : List X) (a c cut : ℕ) → take c xs ≡ ys → a ≡ cut → a ≤ c → take a xs ≡ take cut ys
+front-is xs ys a c cut h q le = sym (take-take a c xs le) ∙ rw (h, q) refl
+
+measure-less : (b i x h u f m g : ℕ) → x ≡ h → i + x ≤ b → (u + f) + h < (m + g) + h + h → (b - (i + x)) + (u + f) < (b - i) + (m + g)
+measure-less b i x h u f m g e le lt = omega arith
+
+put-fits : (o m spare old stay n : ℕ) (xs : List ℕ) → spare ≡ m - stay → old ≡ stay - m → o + stay ≤ n → o + (m - spare + length (take old xs)) ≤ n
+put-fits o m spare old stay n xs a b h = omega (arith, length-take old xs)
 
 module _ {l t m e o i b : ℕ} {from : List ℕ} {xs : List Entry} {levels : List (List ℕ)} (ready : Ready l t m e o i b from xs levels) where
   abbrev pub stampsAt : List ℕ
@@ -159,14 +171,67 @@ module _ {l t m e o i b : ℕ} {from : List ℕ} {xs : List Entry} {levels : Lis
           omega (arith, next-length, ap length same),
         )
 
-pub part-is : {X : Type 0} (xs ys : List X) (a c cut : ℕ) → take c xs ≡ ys → a ≡ cut → take (c - a) (drop a xs) ≡ drop cut ys
-part-is xs ys a c cut h q = between-is xs a c ∙ rw (h, q) refl
+-- What the code finds at a level: `came` stamps from below and the level's own make the first `c` of `held`. Of these and the
+-- new buckets `stay` stay; `spare` new ones do not, and `old` of the held ones do.
+module _ {l t m e o i b : ℕ} {from : List ℕ} {xs : List Entry} {levels : List (List ℕ)} (ready : Ready l t m e o i b from xs levels) where
+  pub record Found (came c stay spare old : ℕ) (held : List ℕ) : Type 0 where
+    pub holds : take c held ≡ stampsAt ready
+    pub count : c ≡ length (stampsAt ready)
+    pub own : c - came ≡ length (headOf levels)
+    pub stays : stay ≡ stayAt ready
+    pub spares : spare ≡ m - stayAt ready
+    pub olds : old ≡ stayAt ready - m
 
-pub front-is : {X : Type 0} (xs ys : List X) (a c cut : ℕ) → take c xs ≡ ys → a ≡ cut → a ≤ c → take a xs ≡ take cut ys
-front-is xs ys a c cut h q le = sym (take-take a c xs le) ∙ rw (h, q) refl
+  pub found : (came c stay spare old : ℕ) (h₁ h₂ : List ℕ) → take came h₁ ≡ newer from → came ≡ length (newer from)
+      → take c h₂ ≡ take came h₁ ++ ownOf e (drop i (take b xs)) → c ≡ came + length (ownOf e (drop i (take b xs)))
+      → stay ≡ staying l (m + c) → spare ≡ m - stay → old ≡ stay - m → Found came c stay spare old h₂
+  found came c stay spare old h₁ h₂ w₁ n₁ w₂ n₂ st sp ol =
+      let g = raise-gathered ready came c h₁ h₂ w₁ n₁ w₂ n₂ in
+      let stays : stay ≡ stayAt ready = st ∙ ap (λ (k : ℕ). staying l (m + k)) (g .1) in
+      record { holds = g .0; count = g .1; own = g .2; stays = stays; spares = sp ∙ ap (λ (k : ℕ). m - k) stays; olds = ol ∙ ap (λ (k : ℕ). k - m) stays }
 
-pub measure-less : (b i x h u f m g : ℕ) → x ≡ h → i + x ≤ b → (u + f) + h < (m + g) + h + h → (b - (i + x)) + (u + f) < (b - i) + (m + g)
-measure-less b i x h u f m g e le lt = omega arith
+  module _ (some : 1 ≤ m + length (stampsAt ready)) {came c stay spare old : ℕ} {held : List ℕ} (k : Found came c stay spare old held) where
+    -- what the level above is given: how many new ones, and the stamps of which the newer of each pair
+    abbrev pub newUp : ℕ
+    newUp = (spare + 1) / 2
 
-pub put-fits : (o m spare old stay n : ℕ) (xs : List ℕ) → spare ≡ m - stay → old ≡ stay - m → o + stay ≤ n → o + (m - spare + length (take old xs)) ≤ n
-put-fits o m spare old stay n xs a b h = omega (arith, length-take old xs)
+    abbrev pub oldsUp : List ℕ
+    oldsUp = take (c - (old + spare % 2)) (drop (old + spare % 2) held)
+
+    new-is : newUp ≡ ups l m (stampsAt ready)
+    new-is = ap (λ (z : ℕ). (z + 1) / 2) (k .spares)
+
+    olds-is : oldsUp ≡ goUp ready
+    olds-is =
+        part-is held (stampsAt ready) (old + spare % 2) c ((stayAt ready - m) + (m - stayAt ready) % 2) (k .holds)
+        (ap₂ (λ (y z : ℕ). y + z % 2) (k .olds) (k .spares))
+
+    pub short-up : length from ≤ 2 * l + 2 → length oldsUp ≤ 2 * l + 2
+    short-up h = omega (arith, length-take (c - (old + spare % 2)) (drop (old + spare % 2) held), held-few ready h, k .count)
+
+    -- the level above is ready for its turn, and less is left to do
+    pub next-ready : Ready l t newUp (e + 1) (o + stay) (i + (c - came)) b oldsUp xs (restOf levels)
+    next-ready = raise-next ready some newUp (e + 1) (o + stay) (i + (c - came)) oldsUp new-is (omega arith) (omega (arith, k .stays)) (omega (arith, k .own)) olds-is
+
+    pub next-less : i + (c - came) ≤ b → (b - (i + (c - came))) + (newUp + length (newer oldsUp)) < (b - i) + (m + length (newer from))
+    next-less inside =
+        measure-less b i (c - came) (length (headOf levels)) newUp (length (newer oldsUp)) m (length (newer from)) (k .own) inside
+        (rw (olds-is, new-is) (raise-less ready some))
+
+    pub next-room : (ys : List Entry) → length ys ≡ length xs → o + (m - spare + length (take old held)) ≤ length ys
+    next-room ys n =
+        put-fits o m spare old stay (length ys) held (k .spares ∙ ap (λ (z : ℕ). m - z) (sym (k .stays))) (k .olds ∙ ap (λ (z : ℕ). z - m) (sym (k .stays)))
+        (omega (arith, k .stays, next-length ready some, ready .room, n))
+
+    -- the buckets that stay are written under what the levels above became
+    pub next-done : (ys zs : List Entry) (r : ℕ) → ys ≡ laid (o + stay) (raised l t newUp (e + 1) oldsUp (restOf levels)) xs
+        → r ≡ o + stay + length (raised l t newUp (e + 1) oldsUp (restOf levels))
+        → zs ≡ laid o (map (ofSize e) (replicate (m - spare) t ++ take old held)) ys
+        → (zs ≡ laid o (raised l t m e from levels) xs) × (r ≡ o + length (raised l t m e from levels))
+    next-done ys zs r w q v =
+        let done = raise-done ready some newUp (e + 1) (o + stay) oldsUp new-is (omega arith) (omega (arith, k .stays)) olds-is ys r w q in
+        let fewer : m - spare ≡ min (stayAt ready) m = omega (arith, k .spares) in
+        let front : take old held ≡ take (stayAt ready - m) (stampsAt ready) = front-is held (stampsAt ready) old c (stayAt ready - m) (k .holds) (k .olds) (omega (arith, k .olds, k .count)) in
+        let written : replicate (m - spare) t ++ take old held ≡ replicate (min (stayAt ready) m) t ++ take (stayAt ready - m) (stampsAt ready) =
+        ap₂ (λ (y : ℕ) (z : List ℕ). replicate y t ++ z) fewer front in
+        (v ∙ ap (λ (z : List ℕ). laid o (map (ofSize e) z) ys) written ∙ done .0, done .1)
