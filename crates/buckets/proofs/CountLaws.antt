@@ -56,7 +56,8 @@ module _ (b : Board) (v : ℕ) (small : v ≤ 960) (left : b .standing .tick + 1
   early = omega (arith, left, b .ticks)
 
   all-kept : keptAt s (b .standing) t (b .entries) ≡ boardBuckets b
-  all-kept = within-all (s .window) t (boardBuckets b) (any-all (λ x. t < x .stamp + s .window) (λ x. omega (arith, early, b .window)) (boardBuckets b))
+  all-kept = within-all (s .window) t (boardBuckets b) (any-all (λ x. t < x .stamp + s .window) (λ x. omega (arith, early, b .window))
+      (boardBuckets b))
 
   later : b .standing .tick ≤ t
   later = omega arith
@@ -94,25 +95,29 @@ module _ (b : Board) (v : ℕ) (small : v ≤ 960) (left : b .standing .tick + 1
 
   pub next : (r : Result Standing EnterFault) → r ≡ standing s (b .standing) t v (b .entries) → Next r
   next r e =
-      subst Next (sym (e ∙ ap (λ (f : Option EnterFault). unless f (record { tick = t; weight = weightBefore (b .standing) t + v; buckets = length (bucketsAfter s (b .standing) t v (b .entries)) })) accepted))
+      subst Next (sym (e ∙ ap (λ (f : Option EnterFault). unless f (record
+      { tick = t; weight = weightBefore (b .standing) t + v; buckets = length (bucketsAfter s (b .standing) t v (b .entries)) })) accepted))
       (refl, ap length new-is)
 
   pub next-buckets : (n : ℕ) (ys : List Entry) → n ≡ length new → ys ≡ stretchAfter s (b .standing) t v (b .entries) → take n ys ≡ new
   next-buckets n ys q e =
       let w : ys ≡ padded (length (b .entries)) new =
-      e ∙ ap (λ (f : Option EnterFault). changed f (b .entries) (padded (length (b .entries)) (bucketsAfter s (b .standing) t v (b .entries)))) accepted ∙ ap (padded (length (b .entries))) new-is in
+      e ∙ ap (λ (f : Option EnterFault). changed f (b .entries) (padded (length (b .entries))
+      (bucketsAfter s (b .standing) t v (b .entries)))) accepted ∙ ap (padded (length (b .entries))) new-is in
       ap (take n) w ∙ take-at new (zeros (length (b .entries) - length new)) n (sym q)
 
 -- the buckets lie within the entries
 pub buckets-inside : (b : Board) → b .standing .buckets ≤ 460
 buckets-inside b =
-    let f = stretch-says (b .settings .half) (b .settings .top) (b .settings .window) (b .standing .tick) (b .standing .buckets) (b .entries) (b .sound) in
+    let f = stretch-says (b .settings .half) (b .settings .top) (b .settings .window) (b .standing .tick) (b .standing .buckets)
+    (b .entries) (b .sound) in
     omega (arith, f .few, f .roomy, b .whole)
 
 -- and are small
 pub buckets-small : (b : Board) → All Small (boardBuckets b)
 buckets-small b =
-    let f = stretch-says (b .settings .half) (b .settings .top) (b .settings .window) (b .standing .tick) (b .standing .buckets) (b .entries) (b .sound) in
+    let f = stretch-says (b .settings .half) (b .settings .top) (b .settings .window) (b .standing .tick) (b .standing .buckets)
+    (b .entries) (b .sound) in
     let p = sound-says (b .settings .half) (b .settings .top) (b .settings .window) (b .standing .tick) (boardBuckets b) (f .buckets) in
     all-weaker (λ x. x .exponent ≤ b .settings .top) Small (λ x q. omega (arith, q, b .settings .small)) (boardBuckets b) (p .small)
 
@@ -142,4 +147,10 @@ pub empty-sound : (s : Settings) (xs : List Entry) → s .window ≡ 1048576 →
 empty-sound set xs window capped whole none =
     let product : set .window * set .cap ≡ 2 ^ 30 = ap₂ (λ (x y : ℕ). x * y) window capped in
     let few = few-entries (set .half) (set .top) (set .few) (set .small) (omega (arith, set .below, product)) in
-    stretch-from (set .half) (set .top) (set .window) 0 0 xs (record { roomy = omega (arith, few, whole); few = omega arith; past = none; buckets = tail-buckets (set .half) (set .top) (set .window) 0 [] (tail-end (set .half) (set .top) 0 0 (omega arith)) refl })
+    stretch-from (set .half) (set .top) (set .window) 0 0 xs (record {
+      roomy = omega (arith, few, whole);
+      few = omega arith;
+      past = none;
+      buckets = tail-buckets (set .half) (set .top) (set .window) 0
+          [] (tail-end (set .half) (set .top) 0 0 (omega arith)) refl;
+    })

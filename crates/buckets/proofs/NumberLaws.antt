@@ -107,9 +107,6 @@ module _ (line : List ℕ) (most : ℕ) (fits : most < 2 ^ 64) where
   refused-passed i number h l g k passed = refused (λ n le e.
       omega (arith, begun-value i number h l g k, front-le (i + 1) line, ap (value 10) e, value-decimal own n (omega arith)))
 
-  pub begun-none : Begun line most 0 0
-  begun-none = record { within = omega arith; digits = tt; is = refl; small = omega arith }
-
   pub begun-more : (i number : ℕ) → Begun line most i number → i < length line → 48 ≤ getD line i 0 → getD line i 0 ≤ 57
       → number * 10 + (getD line i 0 - 48) ≤ most → Begun line most (i + 1) (number * 10 + (getD line i 0 - 48))
   begun-more i number h l g k small = record {

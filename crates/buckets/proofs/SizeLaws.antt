@@ -36,7 +36,8 @@ module _ (start : List ℕ) (bs : List Entry) where
   pub listed-none : Listed start (length bs)
   listed-none = sym (ap (λ (l : List Entry). start ++ sizesList l) (drop-all (length bs) bs (omega arith)) ∙ append-nil start)
 
-  module _ (out mid out′ : List ℕ) (at : ℕ) (d : Entry) (some : 0 < at) (listed : Listed out at) (told : out′ ≡ mid ++ decimal (size (getD bs (at - 1) d))) where
+  module _ (out mid out′ : List ℕ) (at : ℕ) (d : Entry) (some : 0 < at) (listed : Listed out at)
+      (told : out′ ≡ mid ++ decimal (size (getD bs (at - 1) d))) where
     next : at ≤ length bs → drop (at - 1) bs ≡ getD bs (at - 1) d ∷ drop at bs
     next within = drop-more bs (at - 1) d (omega arith) ∙ ap (λ (i : ℕ). getD bs (at - 1) d ∷ drop i bs) (omega arith)
 
@@ -45,7 +46,8 @@ module _ (start : List ℕ) (bs : List Entry) where
     listed-oldest last e =
         let none : drop at bs ≡ [] = drop-all at bs (omega arith) in
         told
-        ∙ ap (λ (l : List ℕ). l ++ decimal (size (getD bs (at - 1) d))) (e ∙ listed ∙ ap (λ (l : List Entry). start ++ sizesList l) none ∙ append-nil start)
+        ∙ ap (λ (l : List ℕ). l ++ decimal (size (getD bs (at - 1) d)))
+        (e ∙ listed ∙ ap (λ (l : List Entry). start ++ sizesList l) none ∙ append-nil start)
         ∙ ap (λ (l : List Entry). start ++ sizesList l) (sym (next (omega arith) ∙ ap (λ (l : List Entry). getD bs (at - 1) d ∷ l) none))
 
     -- and each newer one's after a blank

@@ -58,10 +58,16 @@ module _ (s : Settings) (was : Standing) (t v : ℕ) (xs : List Entry)
 
   -- the buckets that stay are the first
   pub kept-inside : length (keptAt s was t xs) ≤ was .buckets
-  kept-inside = omega (arith, length-within (s .window) t (take (was .buckets) xs), length-take-le (was .buckets) xs (omega (arith, facts .few, facts .roomy)))
+  kept-inside = omega (
+    arith,
+    length-within (s .window) t (take (was .buckets) xs),
+    length-take-le (was .buckets) xs
+        (omega (arith, facts .few, facts .roomy)),
+  )
 
   pub kept-is : take (length (keptAt s was t xs)) xs ≡ keptAt s was t xs
-  kept-is = sym (take-take (length (keptAt s was t xs)) (was .buckets) xs kept-inside) ∙ within-front (s .window) t (take (was .buckets) xs) (parts .form .falling)
+  kept-is = sym (take-take (length (keptAt s was t xs)) (was .buckets) xs kept-inside) ∙ within-front (s .window) t (take (was .buckets) xs)
+      (parts .form .falling)
 
   pub kept-formed : formed (s .half) t (keptAt s was t xs) ≡ true
   kept-formed =
@@ -79,14 +85,21 @@ module _ (s : Settings) (was : Standing) (t v : ℕ) (xs : List Entry)
     new = bucketsAfter s was t v xs
 
     after-sound : (soundBuckets (s .half) (s .top) (s .window) t new ≡ true) × (length new ≤ (s .half + 1) * (s .top + 1))
-    after-sound = insertion-sound (s .half) (s .top) (s .window) (was .tick) t v (take (was .buckets) xs) (s .some) (s .opens) later (facts .buckets) fits
+    after-sound = insertion-sound (s .half) (s .top) (s .window) (was .tick) t v (take (was .buckets) xs) (s .some) (s .opens) later
+        (facts .buckets) fits
 
     front-new : (n : ℕ) (ys : List Entry) → n ≡ length new → ys ≡ padded (length xs) new → take n ys ≡ new
     front-new n ys q w = ap (take n) w ∙ take-at new (zeros (length xs - length new)) n (sym q)
 
     length-new : (ys : List Entry) → ys ≡ padded (length xs) new → length ys ≡ length xs
     length-new ys w =
-        ap length w ∙ omega (arith, length-append new (zeros (length xs - length new)), length-replicate (length xs - length new) zeroEntry, after-sound .1, facts .roomy)
+        ap length w ∙ omega (
+          arith,
+          length-append new (zeros (length xs - length new)),
+          length-replicate (length xs - length new) zeroEntry,
+          after-sound .1,
+          facts .roomy,
+        )
 
     pub entered-sound : (n : ℕ) (ys : List Entry) → n ≡ length new → ys ≡ padded (length xs) new → sound (s .half) (s .top) (s .window) t n ys ≡ true
     entered-sound n ys q w = stretch-from (s .half) (s .top) (s .window) t n ys (record {
@@ -97,17 +110,27 @@ module _ (s : Settings) (was : Standing) (t v : ℕ) (xs : List Entry)
     })
 
     pub entered-keeps : (n : ℕ) (ys : List Entry) → n ≡ length new → ys ≡ padded (length xs) new
-        → (us : List ℕ) → Keeps (s .half) (s .window) (was .tick) us (take (was .buckets) xs) → Keeps (s .half) (s .window) t (replicate v t ++ us) (take n ys)
+        → (us : List ℕ) → Keeps (s .half) (s .window) (was .tick) us (take (was .buckets) xs) → Keeps (s .half) (s .window) t
+        (replicate v t ++ us) (take n ys)
     entered-keeps n ys q w us k =
         subst (Keeps (s .half) (s .window) t (replicate v t ++ us)) (sym (front-new n ys q w))
-        (insertions-keep (s .half) (s .window) t v us (keptAt s was t xs) (s .some) (dropping-keeps (s .half) (s .window) (was .tick) t us (take (was .buckets) xs) later k))
+        (insertions-keep (s .half) (s .window) t v us (keptAt s was t xs) (s .some)
+        (dropping-keeps (s .half) (s .window) (was .tick) t us (take (was .buckets) xs) later k))
 
     pub not-refused : weightBefore was t + v ≤ s .cap → refusal s was t v xs ≡ None
     not-refused cap =
         let full : cond (ltb (most (s .half) (s .top)) (total (keptAt s was t xs) + v)) (Some Full) None ≡ None =
-        cond-false (ltb (most (s .half) (s .top)) (total (keptAt s was t xs) + v)) (Some Full) None (le-ltb (most (s .half) (s .top)) (total (keptAt s was t xs) + v) fits) in
-        let over : cond (ltb (s .cap) (weightBefore was t + v)) (Some OverCap) (cond (ltb (most (s .half) (s .top)) (total (keptAt s was t xs) + v)) (Some Full) None) ≡ None =
-        cond-false (ltb (s .cap) (weightBefore was t + v)) (Some OverCap) (cond (ltb (most (s .half) (s .top)) (total (keptAt s was t xs) + v)) (Some Full) None) (le-ltb (s .cap) (weightBefore was t + v) cap) ∙ full in
-        cond-false (ltb t (was .tick)) (Some Early) (cond (sound (s .half) (s .top) (s .window) (was .tick) (was .buckets) xs) (cond (ltb (s .cap) (weightBefore was t + v)) (Some OverCap) (cond (ltb (most (s .half) (s .top)) (total (keptAt s was t xs) + v)) (Some Full) None)) (Some Unsound)) (le-ltb t (was .tick) later)
-        ∙ cond-true (sound (s .half) (s .top) (s .window) (was .tick) (was .buckets) xs) (cond (ltb (s .cap) (weightBefore was t + v)) (Some OverCap) (cond (ltb (most (s .half) (s .top)) (total (keptAt s was t xs) + v)) (Some Full) None)) (Some Unsound) yes
+        cond-false (ltb (most (s .half) (s .top)) (total (keptAt s was t xs) + v)) (Some Full) None
+        (le-ltb (most (s .half) (s .top)) (total (keptAt s was t xs) + v) fits) in
+        let over : cond (ltb (s .cap) (weightBefore was t + v)) (Some OverCap)
+        (cond (ltb (most (s .half) (s .top)) (total (keptAt s was t xs) + v)) (Some Full) None) ≡ None =
+        cond-false (ltb (s .cap) (weightBefore was t + v)) (Some OverCap)
+        (cond (ltb (most (s .half) (s .top)) (total (keptAt s was t xs) + v)) (Some Full) None)
+        (le-ltb (s .cap) (weightBefore was t + v) cap) ∙ full in
+        cond-false (ltb t (was .tick)) (Some Early) (cond (sound (s .half) (s .top) (s .window) (was .tick) (was .buckets) xs)
+        (cond (ltb (s .cap) (weightBefore was t + v)) (Some OverCap) (cond
+        (ltb (most (s .half) (s .top)) (total (keptAt s was t xs) + v)) (Some Full) None)) (Some Unsound)) (le-ltb t (was .tick) later)
+        ∙ cond-true (sound (s .half) (s .top) (s .window) (was .tick) (was .buckets) xs)
+        (cond (ltb (s .cap) (weightBefore was t + v)) (Some OverCap) (cond
+        (ltb (most (s .half) (s .top)) (total (keptAt s was t xs) + v)) (Some Full) None)) (Some Unsound) yes
         ∙ over

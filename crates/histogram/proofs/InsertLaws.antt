@@ -34,7 +34,14 @@ start l r t v kept xs one small room form fits =
     let by = insertions-by-levels l t v (take kept xs) one form in
     let after : List (List ℕ) = pushAll l (replicate v t) (by .0) in
     let ca : Canonical l after = all-canon l one (replicate v t) (by .0) (by .1) in
-    let sizes : total (flat 0 after) ≤ most l r = omega (arith, all-total l one (replicate v t) (by .0) (by .1), length-replicate v t, ap total (by .2), fits) in
+    let sizes : total (flat 0 after) ≤ most l r = omega (
+      arith,
+      all-total l one (replicate v t) (by .0) (by .1),
+      length-replicate v t,
+      ap
+          total (by .2),
+      fits,
+    ) in
     let few : length after ≤ r + 1 = few-levels l r after ca sizes in
     let m : (l + 1) * length after ≤ (l + 1) * (r + 1) = mul-le-mul-left (l + 1) few in
     let new : incoming v t [] ≡ replicate v t = append-nil (replicate v t) in
@@ -62,7 +69,8 @@ later-zeros : (b n : ℕ) (xs : List Entry) → b ≤ n → drop b xs ≡ zeros 
 later-zeros b n xs h e =
     let q : b + (n - b) ≡ n = omega arith in
     let k : (length xs - b) - (n - b) ≡ length xs - n = omega arith in
-    ap (λ (z : ℕ). drop z xs) (sym q) ∙ sym (drop-drop (n - b) b xs) ∙ ap (drop (n - b)) e ∙ drop-replicate (n - b) (length xs - b) zeroEntry ∙ ap zeros k
+    ap (λ (z : ℕ). drop z xs) (sym q) ∙ sym (drop-drop (n - b) b xs) ∙ ap (drop (n - b)) e ∙ drop-replicate (n - b) (length xs - b)
+    zeroEntry ∙ ap zeros k
 
 -- buckets written over a stretch, and what is left of the old ones zeroed
 pub zeroed : (F xs ys zs : List Entry) (n b : ℕ) → length F ≤ length xs → b ≤ length xs → drop b xs ≡ zeros (length xs - b) → n ≡ length F
@@ -71,11 +79,13 @@ zeroed F xs ys zs n b fits inside past q w v =
     let m : ℕ = max n b in
     let same : length ys ≡ length xs = ap length w ∙ laid-length 0 F xs (omega arith) in
     let front : take n ys ≡ F = ap (take n) w ∙ take-at F (drop (0 + length F) xs) n (sym q) in
-    let rest : drop n ys ≡ drop n xs = ap₂ (λ (k : ℕ) (z : List Entry). drop k z) q w ∙ drop-at F (drop (0 + length F) xs) (length F) refl ∙ ap (λ (k : ℕ). drop k xs) (omega arith) in
+    let rest : drop n ys ≡ drop n xs = ap₂ (λ (k : ℕ) (z : List Entry). drop k z) q w ∙ drop-at F (drop (0 + length F) xs) (length F) refl ∙
+    ap (λ (k : ℕ). drop k xs) (omega arith) in
     let end : n + length (zeros (b - n)) ≡ m = omega (arith, length-replicate (b - n) zeroEntry) in
     let d : n + (m - n) ≡ m = omega arith in
     let tail : drop m ys ≡ zeros (length xs - m) =
-    ap (λ (k : ℕ). drop k ys) (sym d) ∙ sym (drop-drop (m - n) n ys) ∙ ap (drop (m - n)) rest ∙ drop-drop (m - n) n xs ∙ ap (λ (k : ℕ). drop k xs) d ∙ later-zeros b m xs (omega arith) past in
+    ap (λ (k : ℕ). drop k ys) (sym d) ∙ sym (drop-drop (m - n) n ys) ∙ ap (drop (m - n)) rest ∙ drop-drop (m - n) n xs ∙ ap
+    (λ (k : ℕ). drop k xs) d ∙ later-zeros b m xs (omega arith) past in
     let k : (b - n) + (length xs - m) ≡ length xs - length F = omega arith in
     v ∙ ap (λ (z : List Entry). z ++ (zeros (b - n) ++ drop (n + length (zeros (b - n))) ys)) front
     ∙ ap (λ (j : ℕ). F ++ (zeros (b - n) ++ drop j ys)) end

@@ -126,7 +126,8 @@ one-fits held held₀ n c x left left′ all e w h g k =
     )
 
 -- all are moved
-pub all-moved : (held all : List ℕ) (n : ℕ) (left : List ℕ) → left ≡ [] → take n held ++ left ≡ all → n ≤ length held → (take n held ≡ all) × (n ≡ length all)
+pub all-moved : (held all : List ℕ) (n : ℕ) (left : List ℕ) → left ≡ [] → take n held ++ left ≡ all → n ≤ length held
+    → (take n held ≡ all) × (n ≡ length all)
 all-moved held all n left e w h =
     let q : take n held ≡ all = sym (append-nil (take n held)) ∙ ap (λ r. take n held ++ r) (sym e) ∙ w in
     (q, sym (length-take-le n held h) ∙ ap length q)

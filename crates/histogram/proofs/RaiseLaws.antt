@@ -64,19 +64,28 @@ len-stay l m t olds =
     split (staying l (m + length olds)) (omega arith)
   where
     split : (r : ℕ) → r ≤ m + length olds → length (replicate (min r m) t ++ take (r - m) olds) ≡ r
-    split r h = omega (arith, length-append (replicate (min r m) t) (take (r - m) olds), length-replicate (min r m) t, length-take-le (r - m) olds (omega arith))
+    split r h = omega (
+      arith,
+      length-append (replicate (min r m) t) (take (r - m) olds),
+      length-replicate (min r m) t,
+      length-take-le
+          (r - m) olds (omega arith),
+    )
 
 module _ (l t m : ℕ) (from : List ℕ) (levels : List (List ℕ)) where
   abbrev pub allOf : List ℕ
   allOf = newer from ++ headOf levels
 
   pub raise-law : Canonical l levels → 1 ≤ m + length allOf
-      → pushAll l (incoming m t from) levels ≡ stay l m t allOf ∷ pushAll l (incoming (ups l m allOf) t (drop ((staying l (m + length allOf) - m) + (m - staying l (m + length allOf)) % 2) allOf)) (restOf levels)
+      → pushAll l (incoming m t from) levels ≡ stay l m t allOf ∷ pushAll l
+      (incoming (ups l m allOf) t (drop ((staying l (m + length allOf) - m) + (m - staying l (m + length allOf)) % 2) allOf)) (restOf levels)
   raise-law = go levels
     where
       go : (ls : List (List ℕ)) → Canonical l ls → 1 ≤ m + length (newer from ++ headOf ls)
-          → pushAll l (incoming m t from) ls ≡ stay l m t (newer from ++ headOf ls) ∷ pushAll l (replicate (ups l m (newer from ++ headOf ls)) t ++ upOlds l m (newer from ++ headOf ls)) (restOf ls)
-      go [] c h = new-level′ l (replicate m t ++ newer from) (omega (arith, length-copies m t (newer from), length-append (newer from) [])) ∙ batch-level l m t (newer from) [] [] (omega arith)
+          → pushAll l (incoming m t from) ls ≡ stay l m t (newer from ++ headOf ls) ∷ pushAll l
+          (replicate (ups l m (newer from ++ headOf ls)) t ++ upOlds l m (newer from ++ headOf ls)) (restOf ls)
+      go [] c h = new-level′ l (replicate m t ++ newer from) (omega (arith, length-copies m t (newer from), length-append (newer from) []))
+          ∙ batch-level l m t (newer from) [] [] (omega arith)
       go (ss ∷ rest) c h = batch-level l m t (newer from) ss rest (c .1)
 
 part-is : {X : Type 0} (xs ys : List X) (a c cut : ℕ) → take c xs ≡ ys → a ≡ cut → take (c - a) (drop a xs) ≡ drop cut ys
@@ -115,7 +124,9 @@ module _ {l t m e o i b : ℕ} {from : List ℕ} {xs : List Entry} {levels : Lis
   pub held-few : length from ≤ 2 * l + 2 → length stampsAt ≤ 2 * l + 2
   held-few k = omega (arith, length-append (newer from) (headOf levels), length-newer-is from, head-few l levels (ready .canon))
 
-  pub raise-less : 1 ≤ m + length stampsAt → (ups l m stampsAt + length (newer goUp)) + length (headOf levels) < (m + length (newer from)) + length (headOf levels) + length (headOf levels)
+  pub raise-less : 1 ≤ m + length stampsAt
+      → (ups l m stampsAt + length (newer goUp)) + length (headOf levels) < (m + length (newer from)) + length (headOf levels) + length
+      (headOf levels)
   raise-less h = omega (arith, up-count l m stampsAt, length-append (newer from) (headOf levels))
 
   -- nothing comes in: what is there only moves
@@ -137,20 +148,28 @@ module _ {l t m e o i b : ℕ} {from : List ℕ} {xs : List Entry} {levels : Lis
 
   module _ (some : 1 ≤ m + length stampsAt) where
     pub next-law : raised l t m e from levels ≡ map (ofSize e) (stay l m t stampsAt) ++ raised l t (ups l m stampsAt) (suc e) goUp (restOf levels)
-    next-law = ap (flat e) (raise-law l t m from levels (ready .canon) some) ∙ row-map e (stay l m t stampsAt) (raised l t (ups l m stampsAt) (suc e) goUp (restOf levels))
+    next-law = ap (flat e) (raise-law l t m from levels (ready .canon) some) ∙ row-map e (stay l m t stampsAt)
+        (raised l t (ups l m stampsAt) (suc e) goUp (restOf levels))
 
     pub next-length : length (raised l t m e from levels) ≡ stayAt + length (raised l t (ups l m stampsAt) (suc e) goUp (restOf levels))
     next-length =
         ap length next-law
-        ∙ omega (arith, length-append (map (ofSize e) (stay l m t stampsAt)) (raised l t (ups l m stampsAt) (suc e) goUp (restOf levels)), length-map (stay l m t stampsAt) (ofSize e), len-stay l m t stampsAt)
+        ∙ omega (
+          arith,
+          length-append (map (ofSize e) (stay l m t stampsAt)) (raised l t (ups l m stampsAt) (suc e) goUp (restOf levels)),
+          length-map (stay l m t stampsAt) (ofSize e),
+          len-stay l m t stampsAt,
+        )
 
     pub next-tops : length (pushAll l (incoming m t from) levels) ≡ suc (length (pushAll l (incoming (ups l m stampsAt) t goUp) (restOf levels)))
     next-tops = ap length (raise-law l t m from levels (ready .canon) some)
 
-    pub raise-next : (m′ e′ o′ i′ : ℕ) (from′ : List ℕ) → m′ ≡ ups l m stampsAt → e′ ≡ suc e → o′ ≡ o + stayAt → i′ ≡ i + length (headOf levels) → from′ ≡ goUp
+    pub raise-next : (m′ e′ o′ i′ : ℕ) (from′ : List ℕ) → m′ ≡ ups l m stampsAt → e′ ≡ suc e → o′ ≡ o + stayAt
+        → i′ ≡ i + length (headOf levels) → from′ ≡ goUp
         → Ready l t m′ e′ o′ i′ b from′ xs (restOf levels)
     raise-next m′ e′ o′ i′ from′ me ee oe ie fe = record {
-      whole = ap (λ (k : ℕ). drop k (take b xs)) ie ∙ sym (drop-drop (length (headOf levels)) i (take b xs)) ∙ ap (drop (length (headOf levels))) (ready .whole)
+      whole = ap (λ (k : ℕ). drop k (take b xs)) ie ∙ sym (drop-drop (length (headOf levels)) i (take b xs)) ∙ ap
+          (drop (length (headOf levels))) (ready .whole)
           ∙ rest-flat e levels ∙ ap (λ (k : ℕ). flat k (restOf levels)) (sym ee);
       canon = rest-canon l levels (ready .canon);
       room = rw (me, ee, oe, fe) (omega (arith, next-length, ready .room));
@@ -159,13 +178,16 @@ module _ {l t m e o i b : ℕ} {from : List ℕ} {xs : List Entry} {levels : Lis
 
     -- what the levels above became, and then this level's buckets under it
     pub raise-done : (m′ e′ o′ : ℕ) (from′ : List ℕ) → m′ ≡ ups l m stampsAt → e′ ≡ suc e → o′ ≡ o + stayAt → from′ ≡ goUp
-        → (ys : List Entry) (r : ℕ) → ys ≡ laid o′ (raised l t m′ e′ from′ (restOf levels)) xs → r ≡ o′ + length (raised l t m′ e′ from′ (restOf levels))
+        → (ys : List Entry) (r : ℕ) → ys ≡ laid o′ (raised l t m′ e′ from′ (restOf levels)) xs → r ≡ o′ + length
+        (raised l t m′ e′ from′ (restOf levels))
         → (laid o (map (ofSize e) (stay l m t stampsAt)) ys ≡ laid o (raised l t m e from levels) xs) × (r ≡ o + length (raised l t m e from levels))
     raise-done m′ e′ o′ from′ me ee oe fe ys r w q =
         let same : raised l t m′ e′ from′ (restOf levels) ≡ raised l t (ups l m stampsAt) (suc e) goUp (restOf levels) = rw (me, ee, fe) refl in
-        let n : o′ ≡ o + length (map (ofSize e) (stay l m t stampsAt)) = omega (arith, length-map (stay l m t stampsAt) (ofSize e), len-stay l m t stampsAt) in (
+        let n : o′ ≡ o + length (map (ofSize e) (stay l m t stampsAt)) = omega
+        (arith, length-map (stay l m t stampsAt) (ofSize e), len-stay l m t stampsAt) in (
           ap (laid o (map (ofSize e) (stay l m t stampsAt))) w
-              ∙ laid-under o o′ (map (ofSize e) (stay l m t stampsAt)) (raised l t m′ e′ from′ (restOf levels)) xs n (omega (arith, next-length, ready .room))
+              ∙ laid-under o o′ (map (ofSize e) (stay l m t stampsAt)) (raised l t m′ e′ from′ (restOf levels)) xs n
+              (omega (arith, next-length, ready .room))
               ∙ ap (λ (z : List Entry). laid o (map (ofSize e) (stay l m t stampsAt) ++ z) xs) same
               ∙ ap (λ (z : List Entry). laid o z xs) (sym next-law),
           omega (arith, next-length, ap length same),
@@ -188,7 +210,15 @@ module _ {l t m e o i b : ℕ} {from : List ℕ} {xs : List Entry} {levels : Lis
   found came c stay spare old h₁ h₂ w₁ n₁ w₂ n₂ st sp ol =
       let g = raise-gathered ready came c h₁ h₂ w₁ n₁ w₂ n₂ in
       let stays : stay ≡ stayAt ready = st ∙ ap (λ (k : ℕ). staying l (m + k)) (g .1) in
-      record { holds = g .0; count = g .1; own = g .2; stays = stays; spares = sp ∙ ap (λ (k : ℕ). m - k) stays; olds = ol ∙ ap (λ (k : ℕ). k - m) stays }
+      record {
+        holds = g .0;
+        count = g .1;
+        own = g .2;
+        stays = stays;
+        spares = sp ∙ ap (λ (k : ℕ). m - k) stays;
+        olds = ol ∙ ap
+            (λ (k : ℕ). k - m) stays;
+      }
 
   module _ (some : 1 ≤ m + length (stampsAt ready)) {came c stay spare old : ℕ} {held : List ℕ} (k : Found came c stay spare old held) where
     -- what the level above is given: how many new ones, and the stamps of which the newer of each pair
@@ -211,7 +241,8 @@ module _ {l t m e o i b : ℕ} {from : List ℕ} {xs : List Entry} {levels : Lis
 
     -- the level above is ready for its turn, and less is left to do
     pub next-ready : Ready l t newUp (e + 1) (o + stay) (i + (c - came)) b oldsUp xs (restOf levels)
-    next-ready = raise-next ready some newUp (e + 1) (o + stay) (i + (c - came)) oldsUp new-is (omega arith) (omega (arith, k .stays)) (omega (arith, k .own)) olds-is
+    next-ready = raise-next ready some newUp (e + 1) (o + stay) (i + (c - came)) oldsUp new-is (omega arith) (omega (arith, k .stays))
+        (omega (arith, k .own)) olds-is
 
     pub next-less : i + (c - came) ≤ b → (b - (i + (c - came))) + (newUp + length (newer oldsUp)) < (b - i) + (m + length (newer from))
     next-less inside =
@@ -220,7 +251,8 @@ module _ {l t m e o i b : ℕ} {from : List ℕ} {xs : List Entry} {levels : Lis
 
     pub next-room : (ys : List Entry) → length ys ≡ length xs → o + (m - spare + length (take old held)) ≤ length ys
     next-room ys n =
-        put-fits o m spare old stay (length ys) held (k .spares ∙ ap (λ (z : ℕ). m - z) (sym (k .stays))) (k .olds ∙ ap (λ (z : ℕ). z - m) (sym (k .stays)))
+        put-fits o m spare old stay (length ys) held (k .spares ∙ ap (λ (z : ℕ). m - z) (sym (k .stays)))
+        (k .olds ∙ ap (λ (z : ℕ). z - m) (sym (k .stays)))
         (omega (arith, k .stays, next-length ready some, ready .room, n))
 
     -- the buckets that stay are written under what the levels above became
@@ -231,7 +263,8 @@ module _ {l t m e o i b : ℕ} {from : List ℕ} {xs : List Entry} {levels : Lis
     next-done ys zs r w q v =
         let done = raise-done ready some newUp (e + 1) (o + stay) oldsUp new-is (omega arith) (omega (arith, k .stays)) olds-is ys r w q in
         let fewer : m - spare ≡ min (stayAt ready) m = omega (arith, k .spares) in
-        let front : take old held ≡ take (stayAt ready - m) (stampsAt ready) = front-is held (stampsAt ready) old c (stayAt ready - m) (k .holds) (k .olds) (omega (arith, k .olds, k .count)) in
+        let front : take old held ≡ take (stayAt ready - m) (stampsAt ready) = front-is held (stampsAt ready) old c (stayAt ready - m)
+        (k .holds) (k .olds) (omega (arith, k .olds, k .count)) in
         let written : replicate (m - spare) t ++ take old held ≡ replicate (min (stayAt ready) m) t ++ take (stayAt ready - m) (stampsAt ready) =
         ap₂ (λ (y : ℕ) (z : List ℕ). replicate y t ++ z) fewer front in
         (v ∙ ap (λ (z : List ℕ). laid o (map (ofSize e) z) ys) written ∙ done .0, done .1)

@@ -32,7 +32,8 @@ all-older : (P : Entry → Type 0) (e : ℕ) (ss : List ℕ) (older : List Entry
 all-older P e [] older h = h
 all-older P e (s ∷ ss) older h = all-older P e ss older (h .1)
 
-tops-small : (l r e : ℕ) (levels : List (List ℕ)) → Canonical l levels → All (λ b. b .exponent ≤ r) (flat e levels) → e ≤ r + 1 → e + length levels ≤ r + 1
+tops-small : (l r e : ℕ) (levels : List (List ℕ)) → Canonical l levels → All (λ b. b .exponent ≤ r) (flat e levels) → e ≤ r + 1
+    → e + length levels ≤ r + 1
 tops-small l r e [] c h le = omega arith
 tops-small l r e ([] ∷ rest) c h le = absurd (omega (arith, c .0))
 tops-small l r e ((s ∷ ss) ∷ rest) c h le =
@@ -47,12 +48,14 @@ pub record TailFacts (l r own : ℕ) (bs : List Entry) : Type 0 where
 pub tail-facts : (l r own : ℕ) (bs : List Entry) → Tail l r 0 own bs → TailFacts l r own bs
 tail-facts l r own bs t =
     let rise = rise-says own bs (t .falls) in
-    let form : Formed l bs = subst (Formed l) (sym (t .whole)) (formed-levels l (t .levels) (t .canonical) (subst (λ (xs : List Entry). Falling (stamps xs)) (t .whole) (rise .1))) in
+    let form : Formed l bs = subst (Formed l) (sym (t .whole)) (formed-levels l (t .levels) (t .canonical)
+    (subst (λ (xs : List Entry). Falling (stamps xs)) (t .whole) (rise .1))) in
     record {
       form = formed-from l own bs form (rise .0);
       falling = rise .1;
       small = subst (All (λ b. b .exponent ≤ r)) (sym (t .whole))
-          (all-weaker (λ b. b .exponent < r + 1) (λ b. b .exponent ≤ r) (λ b q. omega arith) (flat 0 (t .levels)) (flat-small (r + 1) 0 (t .levels) (t .tops)));
+          (all-weaker (λ b. b .exponent < r + 1) (λ b. b .exponent ≤ r) (λ b q. omega arith) (flat 0 (t .levels))
+          (flat-small (r + 1) 0 (t .levels) (t .tops)));
     }
 
 pub facts-tail : (l r own : ℕ) (bs : List Entry) → formed l own bs ≡ true → All (λ b. b .exponent ≤ r) bs → Tail l r 0 own bs
@@ -76,7 +79,8 @@ pub record StretchFacts (l r N own b : ℕ) (xs : List Entry) : Type 0 where
 pub stretch-says : (l r N own b : ℕ) (xs : List Entry) → sound l r N own b xs ≡ true → StretchFacts l r N own b xs
 unfolding sound
 stretch-says l r N own b xs h =
-    let w = and-parts (leb ((l + 1) * (r + 1)) (length xs) && leb b ((l + 1) * (r + 1))) (every isZero (drop b xs) && soundBuckets l r N own (take b xs)) h in
+    let w = and-parts (leb ((l + 1) * (r + 1)) (length xs) && leb b ((l + 1) * (r + 1)))
+    (every isZero (drop b xs) && soundBuckets l r N own (take b xs)) h in
     let v = and-parts (leb ((l + 1) * (r + 1)) (length xs)) (leb b ((l + 1) * (r + 1))) (w .0) in
     let u = and-parts (every isZero (drop b xs)) (soundBuckets l r N own (take b xs)) (w .1) in
     record { roomy = leb-true ((l + 1) * (r + 1)) (length xs) (v .0); few = leb-true b ((l + 1) * (r + 1)) (v .1); past = u .0; buckets = u .1 }
@@ -85,7 +89,8 @@ pub stretch-from : (l r N own b : ℕ) (xs : List Entry) → StretchFacts l r N 
 unfolding sound
 stretch-from l r N own b xs s =
     and-from (leb ((l + 1) * (r + 1)) (length xs) && leb b ((l + 1) * (r + 1))) (every isZero (drop b xs) && soundBuckets l r N own (take b xs))
-    (and-from (leb ((l + 1) * (r + 1)) (length xs)) (leb b ((l + 1) * (r + 1))) (le-leb ((l + 1) * (r + 1)) (length xs) (s .roomy)) (le-leb b ((l + 1) * (r + 1)) (s .few)))
+    (and-from (leb ((l + 1) * (r + 1)) (length xs)) (leb b ((l + 1) * (r + 1))) (le-leb ((l + 1) * (r + 1)) (length xs) (s .roomy))
+    (le-leb b ((l + 1) * (r + 1)) (s .few)))
     (and-from (every isZero (drop b xs)) (soundBuckets l r N own (take b xs)) (s .past) (s .buckets))
 
 -- what the pass over a stretch finds out, and what it is told by
@@ -118,11 +123,13 @@ module _ (s : Settings) (own b W a : ℕ) (xs : List Entry) where
 
   pub surveyed-none : (Facts → ⊥) → None ≡ surveyed s own b W a xs
   surveyed-none h =
-      sym (cond-false (sound (s .half) (s .top) (s .window) own b xs) (Some (told (within W a (take b xs)))) None (not-sound (s .half) (s .top) (s .window) own b xs h))
+      sym (cond-false (sound (s .half) (s .top) (s .window) own b xs) (Some (told (within W a (take b xs)))) None
+      (not-sound (s .half) (s .top) (s .window) own b xs h))
 
   pub surveyed-some : Facts → Some (told (within W a (take b xs))) ≡ surveyed s own b W a xs
   surveyed-some f =
-      sym (cond-true (sound (s .half) (s .top) (s .window) own b xs) (Some (told (within W a (take b xs)))) None (stretch-from (s .half) (s .top) (s .window) own b xs f))
+      sym (cond-true (sound (s .half) (s .top) (s .window) own b xs) (Some (told (within W a (take b xs)))) None
+      (stretch-from (s .half) (s .top) (s .window) own b xs f))
 
   -- a survey tells that the stretch is sound
   abbrev pub Says : Option Survey → Type 0
@@ -131,11 +138,13 @@ module _ (s : Settings) (own b W a : ℕ) (xs : List Entry) where
 
   pub surveyed-says : (o : Option Survey) → o ≡ surveyed s own b W a xs → Says o
   surveyed-says o e =
-      subst Says (sym e) (cond-both (sound (s .half) (s .top) (s .window) own b xs) (Some (told (within W a (take b xs)))) None Says (λ t. (t, refl)) (λ _. tt))
+      subst Says (sym e) (cond-both (sound (s .half) (s .top) (s .window) own b xs) (Some (told (within W a (take b xs)))) None Says
+      (λ t. (t, refl)) (λ _. tt))
 
   pub figures-some : sound (s .half) (s .top) (s .window) own b xs ≡ true
       → Some (record { low = low (within W a (take b xs)); high = high (within W a (take b xs)) }) ≡ figures s own b W a xs
-  figures-some t = sym (cond-true (sound (s .half) (s .top) (s .window) own b xs) (Some (record { low = low (within W a (take b xs)); high = high (within W a (take b xs)) })) None t)
+  figures-some t = sym (cond-true (sound (s .half) (s .top) (s .window) own b xs)
+      (Some (record { low = low (within W a (take b xs)); high = high (within W a (take b xs)) })) None t)
 
   pub figures-bracket : Bracketed s own b W a xs (Some (record { low = low (within W a (take b xs)); high = high (within W a (take b xs)) }))
   figures-bracket us k wn ta = brackets-truth (s .half) (s .window) own us (take b xs) W a k wn ta

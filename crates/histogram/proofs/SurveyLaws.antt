@@ -40,7 +40,8 @@ oldest-at c n bs d h g =
     ap (λ (k : ℕ). oldest c (take k bs)) e ∙ oldest-of c (n - 1) bs d (omega arith)
 
 -- if the oldest lives, all do
-all-live : (N own s : ℕ) (b : Entry) (bs : List Entry) → neverRise s (b ∷ bs) ≡ true → lives N own (b ∷ bs) ≡ true → All (λ x. own < x .stamp + N) (b ∷ bs)
+all-live : (N own s : ℕ) (b : Entry) (bs : List Entry) → neverRise s (b ∷ bs) ≡ true → lives N own (b ∷ bs) ≡ true
+    → All (λ x. own < x .stamp + N) (b ∷ bs)
 all-live N own s b [] f h = (ltb-true own (b .stamp + N) h, tt)
 all-live N own s b (c ∷ bs) f h =
     let w = and-parts (leb (b .stamp) s) (neverRise (b .stamp) (c ∷ bs)) f .1 in
@@ -62,7 +63,8 @@ split-last : (bs : List Entry) (n : ℕ) (d : Entry) → 0 < n → n ≤ length 
 split-last bs n d h k = let e : (n - 1) + 1 ≡ n = omega arith in ap (λ (z : ℕ). take z bs) (sym e) ∙ take-more bs (n - 1) d (omega arith)
 
 module _ (W a : ℕ) where
-  pub drop-last : (bs : List Entry) (n : ℕ) (d : Entry) → 0 < n → n ≤ length bs → ltb a (getD bs (n - 1) d .stamp + W) ≡ false → within W a (take (n - 1) bs) ≡ within W a (take n bs)
+  pub drop-last : (bs : List Entry) (n : ℕ) (d : Entry) → 0 < n → n ≤ length bs → ltb a (getD bs (n - 1) d .stamp + W) ≡ false
+      → within W a (take (n - 1) bs) ≡ within W a (take n bs)
   drop-last bs n d h k q =
       let x : Entry = getD bs (n - 1) d in
       let out : within W a (x ∷ []) ≡ [] = cond-false (ltb a (x .stamp + W)) (x ∷ []) [] q in
@@ -76,7 +78,8 @@ module _ (W a : ℕ) where
   all-within : (ys : List Entry) (x : Entry) → Falling (stamps (ys ++ x ∷ [])) → a < x .stamp + W → within W a (ys ++ x ∷ []) ≡ ys ++ x ∷ []
   all-within [] x f h = cond-true (ltb a (x .stamp + W)) (x ∷ []) [] (lt-ltb a (x .stamp + W) h)
   all-within (y ∷ ys) x f h =
-      cond-true (ltb a (y .stamp + W)) (y ∷ within W a (ys ++ x ∷ [])) (within W a (ys ++ x ∷ [])) (lt-ltb a (y .stamp + W) (omega (arith, below-last (y .stamp) ys x (f .0))))
+      cond-true (ltb a (y .stamp + W)) (y ∷ within W a (ys ++ x ∷ [])) (within W a (ys ++ x ∷ []))
+      (lt-ltb a (y .stamp + W) (omega (arith, below-last (y .stamp) ys x (f .0))))
       ∙ ap {B = List Entry} (λ r. y ∷ r) (all-within ys x (f .1) h)
 
   below-take : (s n : ℕ) (bs : List Entry) → All (λ u. u ≤ s) (stamps bs) → All (λ u. u ≤ s) (stamps (take n bs))
@@ -90,15 +93,18 @@ module _ (W a : ℕ) where
   falling-take (suc n) (x ∷ bs) f = (below-take (x .stamp) n bs (f .0), falling-take n bs (f .1))
 
   -- up to one that is in the window, all are
-  pub front-within : (bs : List Entry) (n : ℕ) (d : Entry) → Falling (stamps bs) → n ≤ length bs → (0 < n → a < getD bs (n - 1) d .stamp + W) → within W a (take n bs) ≡ take n bs
+  pub front-within : (bs : List Entry) (n : ℕ) (d : Entry) → Falling (stamps bs) → n ≤ length bs
+      → (0 < n → a < getD bs (n - 1) d .stamp + W) → within W a (take n bs) ≡ take n bs
   front-within bs zero d f k h = refl
   front-within bs (suc n) d f k h =
       let s = split-last bs (suc n) d (omega arith) k in
       ap (within W a) s
-      ∙ all-within (take (suc n - 1) bs) (getD bs (suc n - 1) d) (subst (λ (z : List Entry). Falling (stamps z)) s (falling-take (suc n) bs f)) (h (omega arith))
+      ∙ all-within (take (suc n - 1) bs) (getD bs (suc n - 1) d) (subst (λ (z : List Entry). Falling (stamps z)) s
+      (falling-take (suc n) bs f)) (h (omega arith))
       ∙ sym s
 
-pub total-less : (bs : List Entry) (n : ℕ) (d : Entry) → 0 < n → n ≤ length bs → total (take n bs) ≡ total (take (n - 1) bs) + size (getD bs (n - 1) d)
+pub total-less : (bs : List Entry) (n : ℕ) (d : Entry) → 0 < n → n ≤ length bs
+    → total (take n bs) ≡ total (take (n - 1) bs) + size (getD bs (n - 1) d)
 total-less bs n d h k =
     ap total (split-last bs n d h k) ∙ total-append (take (n - 1) bs) (getD bs (n - 1) d ∷ [])
     ∙ omega arith

@@ -78,11 +78,13 @@ level-row e s (x ∷ xs) h =
     let w = level-says e s x xs h in
     ap₂ (λ (y : ℕ) (ys : List Entry). ofSize y (x .stamp) ∷ ys) (w .same) (level-row e (x .stamp) xs (w .rest))
 
-level-push : (e s : ℕ) (xs : List Entry) (x : Entry) → levelled e s xs ≡ true → x .exponent ≡ e → x .stamp ≤ lastStamp s xs → levelled e s (xs ++ x ∷ []) ≡ true
+level-push : (e s : ℕ) (xs : List Entry) (x : Entry) → levelled e s xs ≡ true → x .exponent ≡ e → x .stamp ≤ lastStamp s xs
+    → levelled e s (xs ++ x ∷ []) ≡ true
 level-push e s [] x h q le = level-yes e s x [] (x ∷ []) refl q le
 level-push e s (y ∷ xs) x h q le =
     let w = level-says e s y xs h in
-    level-yes e s y (xs ++ x ∷ []) (y ∷ (xs ++ x ∷ [])) refl (w .same) (leb-true (y .stamp) s (w .falls)) ∙ level-push e (y .stamp) xs x (w .rest) q le
+    level-yes e s y (xs ++ x ∷ []) (y ∷ (xs ++ x ∷ [])) refl (w .same) (leb-true (y .stamp) s (w .falls)) ∙ level-push e (y .stamp) xs x
+    (w .rest) q le
 
 -- one bucket more of the level
 pub level-more : (e s n : ℕ) (rest : List Entry) (d : Entry) → levelled e s (take n rest) ≡ true → 1 ≤ n → n < length rest
@@ -115,7 +117,8 @@ row-split : (e : ℕ) (ss : List ℕ) (older : List Entry) → row e ss older �
 row-split e [] older = refl
 row-split e (s ∷ ss) older = ap {B = List Entry} (λ r. ofSize e s ∷ r) (row-split e ss older)
 
-row-front : (e s : ℕ) (ss : List ℕ) (older : List Entry) (m : ℕ) → m ≤ length ss → neverRise s (row e ss older) ≡ true → levelled e s (take m (row e ss older)) ≡ true
+row-front : (e s : ℕ) (ss : List ℕ) (older : List Entry) (m : ℕ) → m ≤ length ss → neverRise s (row e ss older) ≡ true
+    → levelled e s (take m (row e ss older)) ≡ true
 row-front e s ss older zero h g = refl
 row-front e s [] older (suc m) h g = absurd (omega arith)
 row-front e s (x ∷ ss) older (suc m) h g =
@@ -138,7 +141,8 @@ flat-first l e ([] ∷ rest) d c h = absurd (omega (arith, c .0))
 flat-first l e ((s ∷ ss) ∷ rest) d c h = refl
 
 -- the front of a level is told by the first l buckets
-short-level : (l e : ℕ) (ss : List ℕ) (more : List (List ℕ)) → Filled l ss more → (m : ℕ) → m ≤ l → m ≤ length (row e ss (flat (suc e) more)) → m ≤ length ss
+short-level : (l e : ℕ) (ss : List ℕ) (more : List (List ℕ)) → Filled l ss more → (m : ℕ) → m ≤ l
+    → m ≤ length (row e ss (flat (suc e) more)) → m ≤ length ss
 short-level l e ss [] f m a b = omega (arith, length-row e ss [])
 short-level l e ss (next ∷ more) f m a b = omega (arith, f)
 
@@ -149,22 +153,27 @@ tail-front l r e s rest t m a b = go (t .levels) (t .whole) (t .canonical) (t .f
     go [] w c f = let z : m ≡ 0 = omega (arith, ap length w) in ap (λ (k : ℕ). levelled e s (take k rest)) z
     go (ss ∷ more) w c f =
         subst (λ (xs : List Entry). levelled e s (take m xs) ≡ true) (sym w)
-        (row-front e s ss (flat (suc e) more) m (short-level l e ss more (c .2) m a (omega (arith, ap length w))) (subst (λ (xs : List Entry). neverRise s xs ≡ true) w f))
+        (row-front e s ss (flat (suc e) more) m (short-level l e ss more (c .2) m a (omega (arith, ap length w)))
+        (subst (λ (xs : List Entry). neverRise s xs ≡ true) w f))
 
 -- stamps of neighbours
-pub rise-at : (s : ℕ) (xs : List Entry) → neverRise s xs ≡ true → (k : ℕ) (d : Entry) → suc k < length xs → getD xs (suc k) d .stamp ≤ getD xs k d .stamp
+pub rise-at : (s : ℕ) (xs : List Entry) → neverRise s xs ≡ true → (k : ℕ) (d : Entry) → suc k < length xs
+    → getD xs (suc k) d .stamp ≤ getD xs k d .stamp
 rise-at s [] h k d lt = absurd (omega arith)
 rise-at s (x ∷ []) h k d lt = absurd (omega arith)
 rise-at s (x ∷ (y ∷ xs)) h zero d lt =
-    leb-true (y .stamp) (x .stamp) (and-parts (leb (y .stamp) (x .stamp)) (neverRise (y .stamp) xs) (and-parts (leb (x .stamp) s) (neverRise (x .stamp) (y ∷ xs)) h .1) .0)
+    leb-true (y .stamp) (x .stamp) (and-parts (leb (y .stamp) (x .stamp)) (neverRise (y .stamp) xs)
+    (and-parts (leb (x .stamp) s) (neverRise (x .stamp) (y ∷ xs)) h .1) .0)
 rise-at s (x ∷ (y ∷ xs)) h (suc k) d lt =
     rise-at (x .stamp) (y ∷ xs) (and-parts (leb (x .stamp) s) (neverRise (x .stamp) (y ∷ xs)) h .1) k d (omega arith)
 
 -- a stamp that rises
-pub tail-rises : (l r e s n : ℕ) (rest : List Entry) (d : Entry) → 1 ≤ n → n < length rest → getD rest (n - 1) d .stamp < getD rest n d .stamp → Tail l r e s rest → ⊥
+pub tail-rises : (l r e s n : ℕ) (rest : List Entry) (d : Entry) → 1 ≤ n → n < length rest
+    → getD rest (n - 1) d .stamp < getD rest n d .stamp → Tail l r e s rest → ⊥
 tail-rises l r e s n rest d some lt up t =
     let one : suc (n - 1) ≡ n = omega arith in
-    let le : getD rest n d .stamp ≤ getD rest (n - 1) d .stamp = subst (λ (k : ℕ). getD rest k d .stamp ≤ getD rest (n - 1) d .stamp) one (rise-at s rest (t .falls) (n - 1) d (omega arith)) in
+    let le : getD rest n d .stamp ≤ getD rest (n - 1) d .stamp = subst (λ (k : ℕ). getD rest k d .stamp ≤ getD rest (n - 1) d .stamp) one
+    (rise-at s rest (t .falls) (n - 1) d (omega arith)) in
     omega (arith, le, up)
 
 -- one level on, and back
@@ -186,9 +195,11 @@ module _ (l r e s n : ℕ) (rest : List Entry) (v : Level l e s rest n) where
       not-short : length ss < n → ⊥
       not-short lt =
           let at : getD rest (length ss) zeroEntry .exponent ≡ e =
-          subst (λ (x : Entry). x .exponent ≡ e) (getD-take n rest (length ss) zeroEntry lt) (level-at e s (take n rest) (length ss) zeroEntry (v .level) (omega (arith, length-take-le n rest (v .inside)))) in
+          subst (λ (x : Entry). x .exponent ≡ e) (getD-take n rest (length ss) zeroEntry lt)
+          (level-at e s (take n rest) (length ss) zeroEntry (v .level) (omega (arith, length-take-le n rest (v .inside)))) in
           let older : getD rest (length ss) zeroEntry .exponent ≡ suc e =
-          ap (λ (xs : List Entry). getD xs (length ss) zeroEntry .exponent) w ∙ ap (λ (x : Entry). x .exponent) (row-past e ss (flat (suc e) more) zeroEntry)
+          ap (λ (xs : List Entry). getD xs (length ss) zeroEntry .exponent) w ∙ ap (λ (x : Entry). x .exponent)
+          (row-past e ss (flat (suc e) more) zeroEntry)
           ∙ flat-first l (suc e) more zeroEntry (c .3) (omega (arith, sizes, v .inside)) in
           omega (arith, at, older)
 
@@ -206,15 +217,18 @@ module _ (l r e s n : ℕ) (rest : List Entry) (v : Level l e s rest n) where
   tail-after t = go (t .levels) (t .whole) (t .canonical) (t .tops)
     where
       falls : neverRise (getD rest (n - 1) zeroEntry .stamp) (drop n rest) ≡ true
-      falls = subst (λ (x : ℕ). neverRise x (drop n rest) ≡ true) last-is (rise-split s (take n rest) (drop n rest) (subst (λ (xs : List Entry). neverRise s xs ≡ true) whole-is (t .falls)))
+      falls = subst (λ (x : ℕ). neverRise x (drop n rest) ≡ true) last-is
+          (rise-split s (take n rest) (drop n rest) (subst (λ (xs : List Entry). neverRise s xs ≡ true) whole-is (t .falls)))
 
-      go : (ls : List (List ℕ)) → rest ≡ flat e ls → Canonical l ls → e + length ls ≤ r + 1 → Tail l r (e + 1) (getD rest (n - 1) zeroEntry .stamp) (drop n rest)
+      go : (ls : List (List ℕ)) → rest ≡ flat e ls → Canonical l ls → e + length ls ≤ r + 1
+          → Tail l r (e + 1) (getD rest (n - 1) zeroEntry .stamp) (drop n rest)
       go [] w c h = absurd (omega (arith, ap length w, v .some, v .inside))
       go (ss ∷ more) w c h =
           let one : suc e ≡ e + 1 = omega arith in
           record {
             levels = more;
-            whole = ap₂ (λ (k : ℕ) (xs : List Entry). drop k xs) (sym (level-is ss more w c)) w ∙ drop-row e ss (flat (suc e) more) ∙ ap (λ (x : ℕ). flat x more) one;
+            whole = ap₂ (λ (k : ℕ) (xs : List Entry). drop k xs) (sym (level-is ss more w c)) w ∙ drop-row e ss (flat (suc e) more) ∙ ap
+                (λ (x : ℕ). flat x more) one;
             canonical = c .3;
             falls = falls;
             tops = omega (arith, h);
@@ -227,9 +241,11 @@ module _ (l r e s n : ℕ) (rest : List Entry) (v : Level l e s rest n) where
       let len : length ss ≡ n = length-stamps (take n rest) ∙ length-take-le n rest (v .inside) in
       record {
         levels = ss ∷ t .levels;
-        whole = whole-is ∙ ap₂ (λ (xs ys : List Entry). xs ++ ys) (level-row e s (take n rest) (v .level)) (t .whole ∙ ap (λ (x : ℕ). flat x (t .levels)) one) ∙ sym (row-split e ss (flat (suc e) (t .levels)));
+        whole = whole-is ∙ ap₂ (λ (xs ys : List Entry). xs ++ ys) (level-row e s (take n rest) (v .level))
+            (t .whole ∙ ap (λ (x : ℕ). flat x (t .levels)) one) ∙ sym (row-split e ss (flat (suc e) (t .levels)));
         canonical = (omega (arith, len, v .some), omega (arith, len, v .few), fill (t .levels) (t .whole) (t .canonical), t .canonical);
-        falls = subst (λ (xs : List Entry). neverRise s xs ≡ true) (sym whole-is) (rise-join e s (take n rest) (drop n rest) (v .level) (subst (λ (x : ℕ). neverRise x (drop n rest) ≡ true) (sym last-is) (t .falls)));
+        falls = subst (λ (xs : List Entry). neverRise s xs ≡ true) (sym whole-is)
+            (rise-join e s (take n rest) (drop n rest) (v .level) (subst (λ (x : ℕ). neverRise x (drop n rest) ≡ true) (sym last-is) (t .falls)));
         tops = omega (arith, t .tops);
       }
     where

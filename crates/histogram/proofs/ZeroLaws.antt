@@ -38,9 +38,11 @@ zeros-yes xs h = all-every isZero Zero is-zero xs h
 
 -- what the disjunctions of all stamps and of all exponents tell
 pub zeros-then : (xs : List Entry) (s e : ℕ) → (s ≡ 0 → e ≡ 0 → All Zero xs) × (All Zero xs → (s ≡ 0) × (e ≡ 0)) → s ≡ 0 → eqb e 0 ≡ every isZero xs
-zeros-then xs s e inv h = same-truth (eqb e 0) (every isZero xs) (λ q. zeros-yes xs (inv .0 h (eqb-true e 0 q))) (λ q. eq-eqb e 0 (inv .1 (zeros-say xs q) .1))
+zeros-then xs s e inv h = same-truth (eqb e 0) (every isZero xs) (λ q. zeros-yes xs (inv .0 h (eqb-true e 0 q)))
+    (λ q. eq-eqb e 0 (inv .1 (zeros-say xs q) .1))
 
-pub zeros-else : (xs : List Entry) (s e : ℕ) → (s ≡ 0 → e ≡ 0 → All Zero xs) × (All Zero xs → (s ≡ 0) × (e ≡ 0)) → (s ≡ 0 → ⊥) → eqb s 0 ≡ every isZero xs
+pub zeros-else : (xs : List Entry) (s e : ℕ) → (s ≡ 0 → e ≡ 0 → All Zero xs) × (All Zero xs → (s ≡ 0) × (e ≡ 0)) → (s ≡ 0 → ⊥)
+    → eqb s 0 ≡ every isZero xs
 zeros-else xs s e inv h = same-truth (eqb s 0) (every isZero xs) (λ q. absurd (h (eqb-true s 0 q))) (λ q. eq-eqb s 0 (inv .1 (zeros-say xs q) .0))
 
 -- one entry more
@@ -54,7 +56,8 @@ zeros-more xs k d s e h inv = (
       let b = or-zero e (getD xs k d .exponent) q in
       all-more Zero xs k d h (inv .0 (a .0) (b .0)) (a .1, b .1),
   λ all.
-      let here : Zero (getD xs k d) = subst Zero (getD-take (k + 1) xs k d (omega arith)) (all-getD Zero (take (k + 1) xs) k d (omega (arith, length-take-le (k + 1) xs (omega arith))) all) in
+      let here : Zero (getD xs k d) = subst Zero (getD-take (k + 1) xs k d (omega arith))
+      (all-getD Zero (take (k + 1) xs) k d (omega (arith, length-take-le (k + 1) xs (omega arith))) all) in
       let z = inv .1 (subst (All Zero) (take-take k (k + 1) xs (omega arith)) (all-take Zero k (take (k + 1) xs) all)) in
       (ap₂ (λ (x y : ℕ). bitOr x y) (z .0) (here .0), ap₂ (λ (x y : ℕ). bitOr x y) (z .1) (here .1)),
 )

@@ -1,3 +1,4 @@
+-- Low and high bracket the truth.
 use mathlib.Core.Bool.{cond}
 use mathlib.Core.List.{List, [], _∷_}
 use mathlib.Core.Path.{_∙_, _≡_, refl}
@@ -53,7 +54,7 @@ module _ (W a : ℕ) where
       let ih : truth W a us ≤ n = at-most us (f .1) n (λ lt. h (omega arith)) in
       omega (arith, at-most-one u)
 
--- a bucket of size c at place p has l (c - 1) units in front of it
+-- a bucket of size c at place p has l × (c − 1) arrivals in front of it
 abbrev pub Wide : ℕ → ℕ → List Entry → Type 0
 Wide l p [] = Unit {0}
 Wide l p (b ∷ bs) = (l * size b ≤ p + l) × Wide l (p + size b) bs

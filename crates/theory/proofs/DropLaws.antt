@@ -1,3 +1,4 @@
+-- Dropping, by levels and by the test of each bucket.
 use mathlib.Core.List.{List, [], _∷_}
 use mathlib.Core.Path.{_∙_, _≡_, ap, refl, sym}
 use native.Mathlib.Omega.{arith}

@@ -1,3 +1,4 @@
+-- Canonical levels, laid out, are formed buckets.
 use mathlib.Core.Bool.{cond}
 use mathlib.Core.List.{List, [], _∷_}
 use mathlib.Core.Logic.{_⊎_, inl, inr}

@@ -32,7 +32,8 @@ use Rattle.theory.specs.declared.entries.Entry.{Entry}
 one-tick : (W a : ℕ) (us : List ℕ) → truth (suc W) a us ≤ truth W a us + atTick (a - W) us
 one-tick W a [] = omega arith
 one-tick W a (u ∷ us) =
-    cond-both (ltb a (u + suc W)) 1 0 (λ z. z + truth (suc W) a us ≤ (cond (ltb a (u + W)) 1 0 + truth W a us) + (cond (eqb u (a - W)) 1 0 + atTick (a - W) us))
+    cond-both (ltb a (u + suc W)) 1 0 (λ z. z + truth (suc W) a us ≤ (cond (ltb a (u + W)) 1 0 + truth W a us) +
+    (cond (eqb u (a - W)) 1 0 + atTick (a - W) us))
     (λ e. cond-both (ltb a (u + W)) 1 0 (λ z. 1 + truth (suc W) a us ≤ (z + truth W a us) + (cond (eqb u (a - W)) 1 0 + atTick (a - W) us))
     (λ f. omega (arith, one-tick W a us))
     (λ f. cond-both (eqb u (a - W)) 1 0 (λ z. 1 + truth (suc W) a us ≤ (0 + truth W a us) + (z + atTick (a - W) us))
@@ -43,19 +44,22 @@ one-tick W a (u ∷ us) =
 none-later : (a : ℕ) (us : List ℕ) → Below a us → truth 0 a us ≡ 0
 none-later a [] b = refl
 none-later a (u ∷ us) b =
-    cond-both (ltb a (u + 0)) 1 0 (λ z. z + truth 0 a us ≡ 0) (λ e. absurd (omega (arith, ltb-true a (u + 0) e, b .0))) (λ e. omega (arith, none-later a us (b .1)))
+    cond-both (ltb a (u + 0)) 1 0 (λ z. z + truth 0 a us ≡ 0) (λ e. absurd (omega (arith, ltb-true a (u + 0) e, b .0)))
+    (λ e. omega (arith, none-later a us (b .1)))
 
 pub window-few : (R a : ℕ) (us : List ℕ) → ((s : ℕ) → atTick s us ≤ R) → Below a us → (W : ℕ) → truth W a us ≤ W * R
 window-few R a us h b zero = omega (arith, none-later a us b)
 window-few R a us h b (suc W) = omega (arith, one-tick W a us, h (a - W), window-few R a us h b W)
 
 -- what holds of each arrival holds of each bucket's stamp
-pub stamps-from : (Q : ℕ → Type 0) (N t : ℕ) (us : List ℕ) → ((k : ℕ) → k < length us → Q (getD us k 0)) → (p : ℕ) (bs : List Entry) → Stands N t us p bs → All (λ x. Q (x .stamp)) bs
+pub stamps-from : (Q : ℕ → Type 0) (N t : ℕ) (us : List ℕ) → ((k : ℕ) → k < length us → Q (getD us k 0)) → (p : ℕ) (bs : List Entry)
+    → Stands N t us p bs → All (λ x. Q (x .stamp)) bs
 stamps-from Q N t us h p [] s = tt
 stamps-from Q N t us h p (x ∷ bs) s =
     (subst Q (s .1) (h p (omega (arith, s .0, pow-pos (x .exponent)))), stamps-from Q N t us h (p + size x) bs (s .2))
 
-pub all-copies : (Q : ℕ → Type 0) (n s : ℕ) (us : List ℕ) → Q s → ((k : ℕ) → k < length us → Q (getD us k 0)) → (k : ℕ) → k < length (replicate n s ++ us) → Q (getD (replicate n s ++ us) k 0)
+pub all-copies : (Q : ℕ → Type 0) (n s : ℕ) (us : List ℕ) → Q s → ((k : ℕ) → k < length us → Q (getD us k 0)) → (k : ℕ)
+    → k < length (replicate n s ++ us) → Q (getD (replicate n s ++ us) k 0)
 all-copies Q zero s us q h k lt = h k lt
 all-copies Q (suc n) s us q h zero lt = q
 all-copies Q (suc n) s us q h (suc k) lt = all-copies Q n s us q h k (omega arith)
@@ -73,7 +77,8 @@ own-all Q [] e k lt = absurd (omega arith)
 own-all Q (x ∷ bs) e k lt = all-copies Q (size x) (x .stamp) (ownArrivals bs) (e .0) (own-all Q bs (e .1)) k lt
 
 pub within-live : (N t : ℕ) (bs : List Entry) → All (λ b. t < b .stamp + N) (within N t bs)
-within-live N t bs = all-weaker (λ b. ltb t (b .stamp + N) ≡ true) (λ b. t < b .stamp + N) (λ b q. ltb-true t (b .stamp + N) q) (within N t bs) (kept-by-passes (λ b. ltb t (b .stamp + N)) bs)
+within-live N t bs = all-weaker (λ b. ltb t (b .stamp + N) ≡ true) (λ b. t < b .stamp + N) (λ b q. ltb-true t (b .stamp + N) q)
+    (within N t bs) (kept-by-passes (λ b. ltb t (b .stamp + N)) bs)
 
 pub all-within : (P : Entry → Type 0) (N t : ℕ) (bs : List Entry) → All P bs → All P (within N t bs)
 all-within P N t bs h = all-kept-by (λ b. ltb t (b .stamp + N)) P bs h
@@ -96,8 +101,10 @@ all-stamps P (b ∷ bs) h = (h .0, all-stamps P bs (h .1))
 pub inserted-live : (l N t v : ℕ) (bs : List Entry) → 1 ≤ l → 0 < N → Formed l bs → Below t (stamps bs) → All (λ b. t < b .stamp + N) bs
     → All (λ b. t < b .stamp + N) (insertions l v t bs)
 inserted-live l N t v bs one pos f b live =
-    let good = good-inserts l N t v t one (ownArrivals bs) bs (own-below t bs b) (own-fall bs (f .falling)) (good-from l N t (ownArrivals bs) bs (own-keeps l N t bs f b)) in
-    stamps-from (λ u. t < u + N) N t (replicate v t ++ ownArrivals bs) (all-copies (λ u. t < u + N) v t (ownArrivals bs) (omega arith) (own-all (λ u. t < u + N) bs live)) 0 (insertions l v t bs) (good .1)
+    let good = good-inserts l N t v t one (ownArrivals bs) bs (own-below t bs b) (own-fall bs (f .falling))
+    (good-from l N t (ownArrivals bs) bs (own-keeps l N t bs f b)) in
+    stamps-from (λ u. t < u + N) N t (replicate v t ++ ownArrivals bs)
+    (all-copies (λ u. t < u + N) v t (ownArrivals bs) (omega arith) (own-all (λ u. t < u + N) bs live)) 0 (insertions l v t bs) (good .1)
 
 -- v arrivals as one batch: the levels they leave, and the sum of the sizes
 pub record Batch (l t v : ℕ) (bs : List Entry) : Type 0 where
@@ -123,8 +130,21 @@ levels-room l r levels c h =
     let few : length levels ≤ r + 1 = few-levels l r levels c h in
     let m : (l + 1) * length levels ≤ (l + 1) * (r + 1) = mul-le-mul-left (l + 1) few in (
       omega (arith, length-flat l 0 levels c, m),
-      all-weaker (λ b. b .exponent < r + 1) (λ b. b .exponent ≤ r) (λ b q. omega arith) (flat 0 levels) (flat-small (r + 1) 0 levels (omega (arith, few))),
+      all-weaker (λ b. b .exponent < r + 1) (λ b. b .exponent ≤ r) (λ b q. omega arith) (flat 0 levels)
+          (flat-small (r + 1) 0 levels (omega (arith, few))),
     )
+
+pub dropping-sound : (l r N own t : ℕ) (bs : List Entry) → own ≤ t → soundBuckets l r N own bs ≡ true → soundBuckets l r N t (within N t bs) ≡ true
+dropping-sound l r N early t bs le h =
+    let s = sound-says l r N early bs h in
+    let kept = dropping-keeps l N early t (ownArrivals bs) bs le (own-keeps l N early bs (s .form) (s .arrived)) in
+    let facts = formed-says l t (within N t bs) (kept .formed) in
+    sound-from l r N t (within N t bs) (record {
+      form = facts .0;
+      arrived = facts .1;
+      live = within-live N t bs;
+      small = all-within (λ b. b .exponent ≤ r) N t bs (s .small);
+    })
 
 pub insertion-sound : (l r N own t v : ℕ) (bs : List Entry) → 1 ≤ l → 0 < N → own ≤ t → soundBuckets l r N own bs ≡ true
     → total (within N t bs) + v ≤ most l r
@@ -177,8 +197,10 @@ sizes-of l N t us x ss rest c f s e =
     let T : ℕ = total (flat 0 levels) in
     let K : ℕ = length rest in
     let z : 0 + K ≡ K = omega arith in
-    let bound : low (flat 0 levels) ≤ truth N t us = subst (λ (y : List Entry). low y ≤ truth N t us) e (error-bound l N t us levels N t c f s (omega arith) (omega arith) .0) in
-    let last : oldest 0 (flat 0 levels) ≡ 2 ^ K = last-row 0 0 (x ∷ ss) (flat 1 rest) (omega arith) ∙ last-flat l 0 rest (c .3) ∙ ap (λ (k : ℕ). 2 ^ k) z in
+    let bound : low (flat 0 levels) ≤ truth N t us = subst (λ (y : List Entry). low y ≤ truth N t us) e
+    (error-bound l N t us levels N t c f s (omega arith) (omega arith) .0) in
+    let last : oldest 0 (flat 0 levels) ≡ 2 ^ K = last-row 0 0 (x ∷ ss) (flat 1 rest) (omega arith) ∙ last-flat l 0 rest (c .3) ∙ ap
+    (λ (k : ℕ). 2 ^ k) z in
     let low-here : low (flat 0 levels) ≡ (T - 2 ^ K) + 1 = low-is (flat 0 levels) (omega arith) ∙ ap (λ (y : ℕ). (T - y) + 1) last in
     record {
       lower = subst (λ (k : ℕ). (l + 1) * 2 ^ k ≤ T + l) z (omega (arith, low-total l 0 (x ∷ ss) rest c));
@@ -190,7 +212,8 @@ levels-fit : (l r N t : ℕ) (us : List ℕ) (levels : List (List ℕ)) → Cano
     → within N t (flat 0 levels) ≡ flat 0 levels → truth N t us ≤ l * (2 ^ (r + 1) - 1) → total (flat 0 levels) ≤ most l r
 levels-fit l r N t us [] c f s e h = omega arith
 levels-fit l r N t us ([] ∷ rest) c f s e h = absurd (omega arith)
-levels-fit l r N t us ((x ∷ ss) ∷ rest) c f s e h = go (total (flat 0 ((x ∷ ss) ∷ rest))) (length rest) (sizes-of l N t us x ss rest c f s e) (cases-lt (length rest) (r + 1))
+levels-fit l r N t us ((x ∷ ss) ∷ rest) c f s e h = go (total (flat 0 ((x ∷ ss) ∷ rest))) (length rest)
+    (sizes-of l N t us x ss rest c f s e) (cases-lt (length rest) (r + 1))
   where
     go : (T K : ℕ) → Sizes l K T (truth N t us) → (K < r + 1) ⊎ (r + 1 ≤ K) → T ≤ most l r
     go T K z (inl lt) =
@@ -242,8 +265,10 @@ window-levels : (l N t : ℕ) (us : List ℕ) (levels : List (List ℕ)) → Can
 window-levels l N t us [] c f s h e = absurd (omega arith)
 window-levels l N t us ([] ∷ rest) c f s h e = absurd (omega arith)
 window-levels l N t us ((x ∷ ss) ∷ rest) c f s h e =
-    let K : top (flat 0 ((x ∷ ss) ∷ rest)) ≡ length rest = top-row-from 0 0 (x ∷ ss) (flat 1 rest) (omega arith) ∙ top-flat l 0 rest (c .3) ∙ omega arith in
-    subst (λ (k : ℕ). l * (2 ^ k - 1) < truth N t us) (sym K) (top-by-window l (length rest) (total (flat 0 ((x ∷ ss) ∷ rest))) (truth N t us) (sizes-of l N t us x ss rest c f s e))
+    let K : top (flat 0 ((x ∷ ss) ∷ rest)) ≡ length rest = top-row-from 0 0 (x ∷ ss) (flat 1 rest) (omega arith) ∙ top-flat l 0 rest (c .3)
+    ∙ omega arith in
+    subst (λ (k : ℕ). l * (2 ^ k - 1) < truth N t us) (sym K) (top-by-window l (length rest) (total (flat 0 ((x ∷ ss) ∷ rest)))
+    (truth N t us) (sizes-of l N t us x ss rest c f s e))
 
 count-levels : (l N t : ℕ) (us : List ℕ) (levels : List (List ℕ)) → Canonical l levels → 1 ≤ length (flat 0 levels) → Stands N t us 0 (flat 0 levels)
     → (length (flat 0 levels) ≤ (l + 1) * (top (flat 0 levels) + 1)) × (l * (2 ^ top (flat 0 levels) - 1) < length us)
@@ -254,7 +279,8 @@ pub few-buckets : (l N t : ℕ) (us : List ℕ) (bs : List Entry) (keeps : Keeps
 few-buckets l N t us bs keeps some =
     let s = keeps .standFor in
     let f = formed-says l t bs (keeps .formed) .0 in
-    let counts = at-levels l bs f (λ x. 1 ≤ length x → Stands 0 0 (s .covered) 0 x → (length x ≤ (l + 1) * (top x + 1)) × (l * (2 ^ top x - 1) < length (s .covered)))
+    let counts = at-levels l bs f (λ x. 1 ≤ length x → Stands 0 0 (s .covered) 0 x → (length x ≤ (l + 1) * (top x + 1)) ×
+    (l * (2 ^ top x - 1) < length (s .covered)))
     (λ levels c one stands. count-levels l 0 0 (s .covered) levels c one stands)
     some (subst (λ (xs : List ℕ). Stands 0 0 xs 0 bs) (append-nil (s .covered)) (groups-stand 0 0 (s .covered) [] bs (s .groups) tt)) in
     record {

@@ -45,7 +45,11 @@ good-insert l N t s g us bs f h =
     at-levels l bs (h .0) (λ r. Stands N t us 0 r → Good l N t (s ∷ us) (insert l s r))
     (λ levels c stands.
     let now : Stands N t (s ∷ us) 0 (flat 0 (push l s levels)) = push-stands N t l s us levels c stands in
-    let fall : Falling (s ∷ stamps (flat 0 levels)) = (stamps-below us s (f .0) N t 0 (flat 0 levels) stands, stamps-fall us (f .1) N t 0 (flat 0 levels) stands) in
+    let fall : Falling (s ∷ stamps (flat 0 levels)) = (
+      stamps-below us s (f .0) N t 0 (flat 0 levels) stands,
+      stamps-fall us (f .1) N t 0
+          (flat 0 levels) stands,
+    ) in
     subst (Good l N t (s ∷ us)) (sym (push-insert l s levels c fall))
     (formed-levels l (push l s levels) (push-canon l g s levels c) (stamps-fall (s ∷ us) f N t 0 (flat 0 (push l s levels)) now), now))
     (h .1)
@@ -80,8 +84,11 @@ good-inserts l N t (suc v) s g us bs b f h =
 -- between the two ways to say what buckets stand for
 pub good-from : (l N t : ℕ) (us : List ℕ) (bs : List Entry) → Keeps l N t us bs → Good l N t us bs
 good-from l N t us bs k =
-    let s = k .standFor in
-    (formed-says l t bs (k .formed) .0, subst (λ (xs : List ℕ). Stands N t xs 0 bs) (sym (s .split)) (groups-stand N t (s .covered) (s .lost) bs (s .groups) (s .expired)))
+    let s = k .standFor in (
+      formed-says l t bs (k .formed) .0,
+      subst (λ (xs : List ℕ). Stands N t xs 0 bs) (sym (s .split))
+          (groups-stand N t (s .covered) (s .lost) bs (s .groups) (s .expired)),
+    )
 
 pub keeps-from : (l N t : ℕ) (us : List ℕ) (bs : List Entry) → Falling us → Below t us → Good l N t us bs → Keeps l N t us bs
 keeps-from l N t us bs f b g =
@@ -96,9 +103,11 @@ keeps-from l N t us bs f b g =
 pub empty-keeps : (l N t : ℕ) → Keeps l N t [] []
 empty-keeps l N t = keeps-from l N t [] [] tt tt (formed-levels l [] tt tt, λ k a b. absurd (omega arith))
 
-pub insertions-keep : (l N t v : ℕ) (us : List ℕ) (bs : List Entry) → 1 ≤ l → Keeps l N t us bs → Keeps l N t (replicate v t ++ us) (insertions l v t bs)
+pub insertions-keep : (l N t v : ℕ) (us : List ℕ) (bs : List Entry) → 1 ≤ l → Keeps l N t us bs
+    → Keeps l N t (replicate v t ++ us) (insertions l v t bs)
 insertions-keep l N t v us bs one k =
-    keeps-from l N t (replicate v t ++ us) (insertions l v t bs) (copies-fall v t us (k .arrived) (k .falling)) (copies-below v t t us (omega arith) (k .arrived))
+    keeps-from l N t (replicate v t ++ us) (insertions l v t bs) (copies-fall v t us (k .arrived) (k .falling))
+    (copies-below v t t us (omega arith) (k .arrived))
     (good-inserts l N t v t one us bs (k .arrived) (k .falling) (good-from l N t us bs k))
 
 pub insertion-keeps : (l N t : ℕ) (us : List ℕ) (bs : List Entry) → 1 ≤ l → Keeps l N t us bs → Keeps l N t (t ∷ us) (insert l t bs)
@@ -124,8 +133,15 @@ ownArrivals (b ∷ bs) = replicate (size b) (b .stamp) ++ ownArrivals bs
 
 own-groups : (bs : List Entry) → Groups bs (ownArrivals bs)
 own-groups [] = refl
-own-groups (b ∷ bs) =
-    (replicate (size b) (b .stamp), ownArrivals bs, refl, length-replicate (size b) (b .stamp), getD-replicate (size b) 0 (b .stamp) 0 (pow-pos (b .exponent)), own-groups bs)
+own-groups (b ∷ bs) = (
+  replicate (size b) (b .stamp),
+  ownArrivals bs,
+  refl,
+  length-replicate (size b) (b .stamp),
+  getD-replicate (size b) 0 (b .stamp) 0
+      (pow-pos (b .exponent)),
+  own-groups bs,
+)
 
 pub own-below : (x : ℕ) (bs : List Entry) → Below x (stamps bs) → Below x (ownArrivals bs)
 own-below x [] b = tt
@@ -135,19 +151,21 @@ pub own-fall : (bs : List Entry) → Falling (stamps bs) → Falling (ownArrival
 own-fall [] f = tt
 own-fall (b ∷ bs) f = copies-fall (size b) (b .stamp) (ownArrivals bs) (own-below (b .stamp) bs (f .0)) (own-fall bs (f .1))
 
--- formed buckets are a histogram of their ownArrivals arrivals
+-- formed buckets are a histogram of their own arrivals
 pub own-keeps : (l N t : ℕ) (bs : List Entry) → Formed l bs → Below t (stamps bs) → Keeps l N t (ownArrivals bs) bs
 own-keeps l N t bs f b =
     keeps-from l N t (ownArrivals bs) bs (own-fall bs (f .falling)) (own-below t bs b)
     (f, subst (λ (us : List ℕ). Stands N t us 0 bs) (append-nil (ownArrivals bs)) (groups-stand N t (ownArrivals bs) [] bs (own-groups bs) tt))
 
 -- insertions one by one, by levels
-pub inserted-levels : (l t v : ℕ) (levels : List (List ℕ)) → 1 ≤ l → Canonical l levels → Below t (stamps (flat 0 levels)) → Falling (stamps (flat 0 levels))
+pub inserted-levels : (l t v : ℕ) (levels : List (List ℕ)) → 1 ≤ l → Canonical l levels → Below t (stamps (flat 0 levels))
+    → Falling (stamps (flat 0 levels))
     → insertions l v t (flat 0 levels) ≡ flat 0 (pushAll l (replicate v t) levels)
 inserted-levels l t zero levels one c b f = refl
 inserted-levels l t (suc v) levels one c b f =
     let e = inserted-levels l t v levels one c b f in
-    let now = insertions-keep l 0 t v (ownArrivals (flat 0 levels)) (flat 0 levels) one (own-keeps l 0 t (flat 0 levels) (formed-levels l levels c f) b) in
+    let now = insertions-keep l 0 t v (ownArrivals (flat 0 levels)) (flat 0 levels) one
+    (own-keeps l 0 t (flat 0 levels) (formed-levels l levels c f) b) in
     let facts = formed-says l t (insertions l v t (flat 0 levels)) (now .formed) in
     ap (insert l t) e ∙ push-insert l t (pushAll l (replicate v t) levels) (all-canon l one (replicate v t) levels c)
     (subst (λ (bs : List Entry). Falling (t ∷ stamps bs)) e (facts .1, facts .0 .falling))

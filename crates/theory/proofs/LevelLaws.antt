@@ -1,4 +1,4 @@
--- A sound flat list has levels.
+-- Formed buckets have levels.
 use mathlib.Core.Bool.{cond}
 use mathlib.Core.List.{List, [], _∷_}
 use mathlib.Core.Path.{_∙_, _≡_, ap, refl, subst, sym}

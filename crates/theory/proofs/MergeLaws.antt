@@ -1,4 +1,4 @@
--- The mergeUp over the flat list is the push into the levels.
+-- Merging upward over the list of buckets is the push into the levels.
 use mathlib.Core.Bool.{_&&_, cond}
 use mathlib.Core.List.{List, [], _++_, _∷_, append-assoc}
 use mathlib.Core.Logic.{_⊎_, inl, inr}

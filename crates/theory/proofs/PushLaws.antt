@@ -1,3 +1,4 @@
+-- One bucket pushed into the levels.
 use mathlib.Core.List.{List, [], _∷_}
 use mathlib.Core.Path.{_≡_, refl}
 use native.Mathlib.Nat.{add-assoc, suc-add, two-pow-succ}
@@ -12,8 +13,7 @@ use Rattle.theory.specs.Buckets.{size}
 use Rattle.theory.specs.Levels.{Canonical, Filled, flat, push, pushAll, row}
 use Rattle.theory.specs.declared.entries.Entry.{Entry}
 
--- 1. canonical form
-
+-- the levels stay canonical
 pub filled-from : (l : ℕ) (ss : List ℕ) (rest : List (List ℕ)) → l ≤ length ss → Filled l ss rest
 filled-from l ss [] h = tt
 filled-from l ss (next ∷ rest) h = h
@@ -34,8 +34,7 @@ push-canon l h s (ss ∷ rest) c =
       push-canon l h (getD (s ∷ ss) l 0) rest (c .3),
     ))
 
--- 2. what the buckets stand for
-
+-- what the buckets stand for: one arrival more shifts all places by one, a merge joins two neighbours
 module _ (N t : ℕ) where
   gone-shift : (s : ℕ) (us : List ℕ) (p : ℕ) → Gone N t us p → Gone N t (s ∷ us) (suc p)
   gone-shift s us p g zero le lt = absurd (omega arith)

@@ -35,11 +35,13 @@ total-push l e s (ss ∷ rest) c =
     let b′ : length ss * 2 ^ e ≡ suc l * 2 ^ e = ap (λ (z : ℕ). z * 2 ^ e) n in
     omega (arith, a, b, a′, b′, ih, two-pow-succ e))
 
-pub all-total : (l : ℕ) → 1 ≤ l → (new : List ℕ) (levels : List (List ℕ)) → Canonical l levels → total (flat 0 (pushAll l new levels)) ≡ length new + total (flat 0 levels)
+pub all-total : (l : ℕ) → 1 ≤ l → (new : List ℕ) (levels : List (List ℕ)) → Canonical l levels
+    → total (flat 0 (pushAll l new levels)) ≡ length new + total (flat 0 levels)
 all-total l h [] levels c = omega arith
 all-total l h (s ∷ new) levels c = omega (arith, total-push l 0 s (pushAll l new levels) (all-canon l h new levels c), all-total l h new levels c)
 
-pub low-total : (l e : ℕ) (ss : List ℕ) (rest : List (List ℕ)) → Canonical l (ss ∷ rest) → (l + 1) * 2 ^ (e + length rest) ≤ total (flat e (ss ∷ rest)) + l * 2 ^ e
+pub low-total : (l e : ℕ) (ss : List ℕ) (rest : List (List ℕ)) → Canonical l (ss ∷ rest)
+    → (l + 1) * 2 ^ (e + length rest) ≤ total (flat e (ss ∷ rest)) + l * 2 ^ e
 low-total l e ss [] c =
     let z : e + 0 ≡ e = omega arith in
     let m : 1 * 2 ^ e ≤ length ss * 2 ^ e = mul-le-mul-right (2 ^ e) (c .0) in
@@ -58,7 +60,8 @@ few-levels l r (ss ∷ rest) c h = go (cases-lt (length rest) (r + 1))
     go : (length rest < r + 1) ⊎ (r + 1 ≤ length rest) → suc (length rest) ≤ r + 1
     go (inl lt) = lt
     go (inr le) = absurd (big (2 ^ (r + 1)) (2 ^ length rest) (pow-pos (r + 1)) (pow-mono le) (total (flat 0 (ss ∷ rest))) h
-        (let z : 0 + length rest ≡ length rest = omega arith in let q = low-total l 0 ss rest c in subst (λ (k : ℕ). (l + 1) * 2 ^ k ≤ total (flat 0 (ss ∷ rest)) + l) z (omega (arith, q))))
+        (let z : 0 + length rest ≡ length rest = omega arith in let q = low-total l 0 ss rest c in subst
+        (λ (k : ℕ). (l + 1) * 2 ^ k ≤ total (flat 0 (ss ∷ rest)) + l) z (omega (arith, q))))
       where
         big : (p q : ℕ) → 1 ≤ p → p ≤ q → (n : ℕ) → n ≤ (l + 1) * (p - 1) → (l + 1) * q ≤ n + l → ⊥
         big zero q a b n x y = omega arith

@@ -87,7 +87,8 @@ none-above e x (b ∷ bs) h lt =
     top-from e [] h = omega arith
     top-from e (b ∷ bs) h = omega (arith, h .0, top-from (b .exponent) bs (h .2))
 
-few-above : (l x : ℕ) (bs : List Entry) → Begins bs → ((e : ℕ) → e < suc (top bs) → howMany e bs ≤ l + 1) → (x ≤ top bs) ⊎ (top bs < x) → howMany x bs ≤ l + 1
+few-above : (l x : ℕ) (bs : List Entry) → Begins bs → ((e : ℕ) → e < suc (top bs) → howMany e bs ≤ l + 1) → (x ≤ top bs) ⊎ (top bs < x)
+    → howMany x bs ≤ l + 1
 few-above l x bs h f (inl le) = f x (omega arith)
 few-above l x [] h f (inr lt) = omega arith
 few-above l x (b ∷ bs) h f (inr lt) =
@@ -106,7 +107,8 @@ formed-says l t bs h =
         falling = rise-says t bs (w .0) .1;
         begins = begins;
         enough = λ e lt. leb-true l (howMany e bs) (below-says (λ e. leb l (howMany e bs)) (top bs) (u .0) e lt);
-        few = λ e. few-above l e bs begins (λ x lt. leb-true (howMany x bs) (l + 1) (below-says (λ e. leb (howMany e bs) (l + 1)) (suc (top bs)) (u .1) x lt)) (cases-le e (top bs));
+        few = λ e. few-above l e bs begins (λ x lt. leb-true (howMany x bs) (l + 1)
+            (below-says (λ e. leb (howMany e bs) (l + 1)) (suc (top bs)) (u .1) x lt)) (cases-le e (top bs));
       },
       rise-says t bs (w .0) .0,
     )

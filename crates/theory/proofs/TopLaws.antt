@@ -1,3 +1,4 @@
+-- How many buckets there are, and how large the oldest is.
 use mathlib.Core.List.{List, [], _∷_}
 use mathlib.Core.Path.{_∙_, _≡_, refl}
 use native.Mathlib.Omega.{arith}
@@ -31,11 +32,11 @@ top-flat l e [] c = omega arith
 top-flat l e (ss ∷ rest) c =
     omega (arith, top-row-from e (suc e) ss (flat (suc (suc e)) rest) (c .0), top-flat l (suc e) rest (c .3))
 
-top-units : (l N t : ℕ) (us : List ℕ) (p : ℕ) (x : ℕ) (bs : List Entry) → Wide l p bs → Stands N t us p bs
+top-arrivals : (l N t : ℕ) (us : List ℕ) (p : ℕ) (x : ℕ) (bs : List Entry) → Wide l p bs → Stands N t us p bs
     → l * 2 ^ x < length us + l → l * 2 ^ topFrom x bs < length us + l
-top-units l N t us p x [] w h k = k
-top-units l N t us p x (b ∷ bs) w h k =
-    top-units l N t us (p + size b) (b .exponent) bs (w .1) (h .2) (omega (arith, w .0, h .0, pow-pos (b .exponent)))
+top-arrivals l N t us p x [] w h k = k
+top-arrivals l N t us p x (b ∷ bs) w h k =
+    top-arrivals l N t us (p + size b) (b .exponent) bs (w .1) (h .2) (omega (arith, w .0, h .0, pow-pos (b .exponent)))
 
 less-one : (l c n : ℕ) → 1 ≤ c → l * c < n + l → l * (c - 1) < n
 less-one l zero n h k = absurd (omega arith)
@@ -51,5 +52,5 @@ count-bound l N t us (s ∷ ss) rest c h =
     top-row-from 0 0 (s ∷ ss) (flat 1 rest) (c .0) ∙ (omega (arith, top-flat l 0 rest (c .3))) in (
       rw e (omega (arith, length-flat l 0 ((s ∷ ss) ∷ rest) c)),
       less-one l (2 ^ top (flat 0 ((s ∷ ss) ∷ rest))) (length us) (pow-pos (top (flat 0 ((s ∷ ss) ∷ rest))))
-          (top-units l N t us 0 0 (flat 0 ((s ∷ ss) ∷ rest)) (wide-flat l 0 ((s ∷ ss) ∷ rest) 0 c (omega arith)) h (omega (arith, h .0))),
+          (top-arrivals l N t us 0 0 (flat 0 ((s ∷ ss) ∷ rest)) (wide-flat l 0 ((s ∷ ss) ∷ rest) 0 c (omega arith)) h (omega (arith, h .0))),
     )

@@ -2,10 +2,10 @@
 use mathlib.Core.Bool.{true}
 use mathlib.Core.List.{List, [], _∷_, _++_}
 use mathlib.Core.Path.{_≡_}
-use Prim.Native.Nat.{ℕ, suc, _+_, _-_, _*_, _^_, _≤_, _<_}
+use Prim.Native.Nat.{ℕ, _+_, _-_, _*_, _^_, _≤_, _<_}
 use lib.ListN.{length, take, drop, replicate}
 use Rattle.std.specs.shelf.Lists.{All}
-use Rattle.theory.specs.Arrivals.{Keeps, StandFor, truth, atTick, Brackets, Largest}
+use Rattle.theory.specs.Arrivals.{Keeps, truth, atTick, Brackets, Largest}
 use Rattle.theory.specs.Buckets.{total, insert, insertions, within, low, high, top, most}
 use Rattle.theory.specs.Levels.{flat, pushAll, newer, staying, Canonical}
 use Rattle.theory.specs.Sound.{formed, soundBuckets}
@@ -44,6 +44,10 @@ FewBuckets = (l N t : ℕ) (us : List ℕ) (bs : List Entry) (keeps : Keeps l N 
 abbrev pub ArrivalsInWindow : Type 0
 ArrivalsInWindow = (R a : ℕ) (us : List ℕ) → ((s : ℕ) → atTick s us ≤ R) → All (λ u. u ≤ a) us
     → (W : ℕ) → truth W a us ≤ W * R
+
+-- sound buckets from which the expired ones are dropped are sound
+abbrev pub DroppingSound : Type 0
+DroppingSound = (l r N own t : ℕ) (bs : List Entry) → own ≤ t → soundBuckets l r N own bs ≡ true → soundBuckets l r N t (within N t bs) ≡ true
 
 -- sound buckets to which v arrivals come at tick t are sound again, if the closing figure is not passed
 abbrev pub InsertionSound : Type 0

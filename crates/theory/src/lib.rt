@@ -11,6 +11,7 @@ pub use theorems::arrivals_in_window;
 pub use theorems::batch_is_repeated;
 pub use theorems::brackets_truth;
 pub use theorems::dropping_keeps;
+pub use theorems::dropping_sound;
 pub use theorems::empty_keeps;
 pub use theorems::few_buckets;
 pub use theorems::insertion_keeps;

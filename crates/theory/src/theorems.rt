@@ -1,6 +1,6 @@
 //! The theorems, each the promise of one function.
 ghost use Rattle.theory.specs.Theorems.{EmptyKeeps, InsertionKeeps, DroppingKeeps, BracketsTruth, FewBuckets};
-ghost use Rattle.theory.specs.Theorems.{ArrivalsInWindow, InsertionSound, NeverFull, BatchIsRepeated};
+ghost use Rattle.theory.specs.Theorems.{ArrivalsInWindow, DroppingSound, InsertionSound, NeverFull, BatchIsRepeated};
 
 /// No buckets are a histogram of no arrivals.
 pub fn empty_keeps()
@@ -31,6 +31,11 @@ pub fn few_buckets()
 /// A cap on the arrivals at each tick caps those of a window.
 pub fn arrivals_in_window()
     ensures holds { λ _. ⌜ ArrivalsInWindow ⌝ }
+{}
+
+/// Dropping leaves sound buckets sound.
+pub fn dropping_sound()
+    ensures holds { λ _. ⌜ DroppingSound ⌝ }
 {}
 
 /// Dropping and inserting leave sound buckets sound, as long as the closing figure is not passed.

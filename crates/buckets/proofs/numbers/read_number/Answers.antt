@@ -15,12 +15,14 @@ pub returns-then-line-gt1 : need.returns-then-line-gt1
 returns-then-line-gt1 c = refused-zero (c .args .line .now) (c .args .most) (c .fits .most .fits) (omega arith) (omega arith)
 
 pub returns-then-byte-lt48 : need.returns-then-byte-lt48
-returns-then-byte-lt48 c = refused-byte (c .args .line .now) (c .args .most) (c .fits .most .fits) (c .loop-byte .byte-index) (omega arith) (λ digit. omega arith)
+returns-then-byte-lt48 c = refused-byte (c .args .line .now) (c .args .most) (c .fits .most .fits) (c .loop-byte .byte-index) (omega arith)
+    (λ digit. omega arith)
 
 pub returns-then-number-most : need.returns-then-number-most
 returns-then-number-most c =
     refused-passed (c .args .line .now) (c .args .most) (c .fits .most .fits) (c .loop-byte .byte-index) (c .loop-byte .number) (c .loop-byte .inv)
-    (omega arith) (omega arith) (omega arith) (elim (c .then-number-most .came) [ then-number-most·by·then-number-most w ↦ omega arith | then-number-most·by·else-number-most·then-digit-most w ↦ omega arith ])
+    (omega arith) (omega arith) (omega arith) (elim (c .then-number-most .came)
+    [ then-number-most·by·then-number-most w ↦ omega arith | then-number-most·by·else-number-most·then-digit-most w ↦ omega arith ])
 
 pub loop-byte-again : need.loop-byte-again
 loop-byte-again c =

@@ -23,7 +23,8 @@ loop-at-again c =
     let told = c .in-Continue-write-size .ensures tt in
     elim (c .if-at-buckets .came) [
       | then-at-buckets·in-Continue-write-blank w ↦
-          listed-newer start buckets out mid out′ (c .loop-at .at) _ (omega arith) (c .loop-at .inv) told (omega arith) (ap string-bytes (w .out-is) ∙ w .in-Continue-write-blank .ensures tt)
+          listed-newer start buckets out mid out′ (c .loop-at .at) _ (omega arith) (c .loop-at .inv) told (omega arith)
+          (ap string-bytes (w .out-is) ∙ w .in-Continue-write-blank .ensures tt)
       | else-at-buckets w ↦
           listed-oldest start buckets out mid out′ (c .loop-at .at) _ (omega arith) (c .loop-at .inv) told (omega arith) (ap string-bytes (w .out-is))
     ]

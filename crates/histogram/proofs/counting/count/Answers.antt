@@ -20,14 +20,16 @@ pub sub-low : need.sub-low
 sub-low c =
     let bs : List Entry = within (c .args .window) (c .args .at) (take (c .args .buckets) (c .args .stretch .now)) in
     let v = c .in-Continue-counted .counted in
-    let says = surveyed-says (c .args .settings .now) (c .args .own) (c .args .buckets) (c .args .window) (c .args .at) (c .args .stretch .now) (Some v) (c .in-Continue-counted .ensures tt .value) in
+    let says = surveyed-says (c .args .settings .now) (c .args .own) (c .args .buckets) (c .args .window) (c .args .at)
+    (c .args .stretch .now) (Some v) (c .in-Continue-counted .ensures tt .value) in
     omega (arith, ap (λ (s : Survey). s .oldest) (says .1), ap (λ (s : Survey). s .sizes) (says .1), oldest-le 0 bs)
 
 pub add-low : need.add-low
 add-low c =
     let bs : List Entry = within (c .args .window) (c .args .at) (take (c .args .buckets) (c .args .stretch .now)) in
     let v = c .in-Continue-counted .counted in
-    let says = surveyed-says (c .args .settings .now) (c .args .own) (c .args .buckets) (c .args .window) (c .args .at) (c .args .stretch .now) (Some v) (c .in-Continue-counted .ensures tt .value) in
+    let says = surveyed-says (c .args .settings .now) (c .args .own) (c .args .buckets) (c .args .window) (c .args .at)
+    (c .args .stretch .now) (Some v) (c .in-Continue-counted .ensures tt .value) in
     let some : length bs ≡ 0 → ⊥ = λ q. c .if-counted-eq0 .left (ap (λ (s : Survey). s .buckets) (says .1) ∙ q) in
     omega (arith, ap (λ (s : Survey). s .oldest) (says .1), ap (λ (s : Survey). s .sizes) (says .1), oldest-le 0 bs, oldest-some bs some)
 
@@ -36,12 +38,15 @@ returns-then-counted-eq0 c =
     let s = c .args .settings .now in
     let bs : List Entry = within (c .args .window) (c .args .at) (take (c .args .buckets) (c .args .stretch .now)) in
     let v = c .in-Continue-counted .counted in
-    let says = surveyed-says s (c .args .own) (c .args .buckets) (c .args .window) (c .args .at) (c .args .stretch .now) (Some v) (c .in-Continue-counted .ensures tt .value) in
+    let says = surveyed-says s (c .args .own) (c .args .buckets) (c .args .window) (c .args .at) (c .args .stretch .now) (Some v)
+    (c .in-Continue-counted .ensures tt .value) in
     let is : record { low = 0; high = v .sizes } ≡ record { low = low bs; high = high bs } =
     rw (low-none bs (sym (ap (λ (x : Survey). x .buckets) (says .1)) ∙ c .if-counted-eq0 .taken), ap (λ (x : Survey). x .sizes) (says .1)) refl in
     record {
-      value = ap {B = Option Figures} (λ (f : Figures). Some f) is ∙ figures-some s (c .args .own) (c .args .buckets) (c .args .window) (c .args .at) (c .args .stretch .now) (says .0);
-      brackets = subst (λ (f : Figures). Bracketed s (c .args .own) (c .args .buckets) (c .args .window) (c .args .at) (c .args .stretch .now) (Some f)) (sym is)
+      value = ap {B = Option Figures} (λ (f : Figures). Some f) is ∙ figures-some s (c .args .own) (c .args .buckets) (c .args .window)
+          (c .args .at) (c .args .stretch .now) (says .0);
+      brackets = subst (λ (f : Figures). Bracketed s (c .args .own) (c .args .buckets) (c .args .window) (c .args .at)
+          (c .args .stretch .now) (Some f)) (sym is)
           (figures-bracket s (c .args .own) (c .args .buckets) (c .args .window) (c .args .at) (c .args .stretch .now));
     }
 
@@ -50,12 +55,15 @@ returns-else-counted-eq0 c =
     let s = c .args .settings .now in
     let bs : List Entry = within (c .args .window) (c .args .at) (take (c .args .buckets) (c .args .stretch .now)) in
     let v = c .in-Continue-counted .counted in
-    let says = surveyed-says s (c .args .own) (c .args .buckets) (c .args .window) (c .args .at) (c .args .stretch .now) (Some v) (c .in-Continue-counted .ensures tt .value) in
+    let says = surveyed-says s (c .args .own) (c .args .buckets) (c .args .window) (c .args .at) (c .args .stretch .now) (Some v)
+    (c .in-Continue-counted .ensures tt .value) in
     let some : length bs ≡ 0 → ⊥ = λ q. c .if-counted-eq0 .left (ap (λ (x : Survey). x .buckets) (says .1) ∙ q) in
     let is : record { low = (v .sizes - v .oldest) + 1; high = v .sizes } ≡ record { low = low bs; high = high bs } =
     rw (low-some bs some, ap (λ (x : Survey). x .sizes) (says .1), ap (λ (x : Survey). x .oldest) (says .1)) refl in
     record {
-      value = ap {B = Option Figures} (λ (f : Figures). Some f) is ∙ figures-some s (c .args .own) (c .args .buckets) (c .args .window) (c .args .at) (c .args .stretch .now) (says .0);
-      brackets = subst (λ (f : Figures). Bracketed s (c .args .own) (c .args .buckets) (c .args .window) (c .args .at) (c .args .stretch .now) (Some f)) (sym is)
+      value = ap {B = Option Figures} (λ (f : Figures). Some f) is ∙ figures-some s (c .args .own) (c .args .buckets) (c .args .window)
+          (c .args .at) (c .args .stretch .now) (says .0);
+      brackets = subst (λ (f : Figures). Bracketed s (c .args .own) (c .args .buckets) (c .args .window) (c .args .at)
+          (c .args .stretch .now) (Some f)) (sym is)
           (figures-bracket s (c .args .own) (c .args .buckets) (c .args .window) (c .args .at) (c .args .stretch .now));
     }

@@ -30,7 +30,8 @@ insert-buckets-requires c κs =
     let says = surveyed-says s (was .tick) (was .buckets) (s .window) t xs (Some (c .in-Some .kept)) (c .in-Some .ensures tt .value) in
     let later : was .tick ≤ t = c .if-tick-was .left in
     let n : c .in-Some .kept .buckets ≡ length (keptAt s was t xs) = ap (λ (x : Survey). x .buckets) (says .1) in
-    let front : take (c .in-Some .kept .buckets) xs ≡ keptAt s was t xs = ap (λ (k : ℕ). take k xs) n ∙ kept-is s was t (c .args .arrivals) xs (says .0) later in
+    let front : take (c .in-Some .kept .buckets) xs ≡ keptAt s was t xs = ap (λ (k : ℕ). take k xs) n ∙ kept-is s was t (c .args .arrivals)
+    xs (says .0) later in
     let fits = leb-true (c .in-Some .kept .sizes + c .args .arrivals) (most (s .half) (s .top)) (sym (c .if-not-fits .ensures tt .value)) in
     let places = enter-places s was t (c .args .arrivals) xs (says .0) later in
     record {
@@ -52,16 +53,28 @@ returns c =
     let n : c .in-Some .kept .buckets ≡ length (keptAt s was t xs) = ap (λ (x : Survey). x .buckets) (says .1) in
     let front : take (c .in-Some .kept .buckets) xs ≡ keptAt s was t xs = ap (λ (k : ℕ). take k xs) n ∙ kept-is s was t v xs (says .0) later in
     let fits : total (keptAt s was t xs) + v ≤ most (s .half) (s .top) =
-    omega (arith, ap (λ (x : Survey). x .sizes) (says .1), leb-true (c .in-Some .kept .sizes + v) (most (s .half) (s .top)) (sym (c .if-not-fits .ensures tt .value))) in
+    omega (
+      arith,
+      ap (λ (x : Survey). x .sizes) (says .1),
+      leb-true (c .in-Some .kept .sizes + v) (most (s .half) (s .top))
+          (sym (c .if-not-fits .ensures tt .value)),
+    ) in
     let same : insertions (s .half) v t (take (c .in-Some .kept .buckets) xs) ≡ bucketsAfter s was t v xs = ap (insertions (s .half) v t) front in
     let many : c .insert-buckets .result ≡ length (bucketsAfter s was t v xs) = c .insert-buckets .ensures .many ∙ ap length same in
-    let laid-out : c .insert-buckets .last .stretch ≡ padded (length xs) (bucketsAfter s was t v xs) = c .insert-buckets .ensures .after ∙ ap (padded (length xs)) same in
+    let laid-out : c .insert-buckets .last .stretch ≡ padded (length xs) (bucketsAfter s was t v xs) = c .insert-buckets .ensures .after ∙
+    ap (padded (length xs)) same in
     let weight = c .weight-at-weight .ensures .value in
     let accepted = not-refused s was t v xs (says .0) later fits (omega (arith, weight)) in
-    let is : record { tick = t; weight = c .weight-at-weight .result + v; buckets = c .insert-buckets .result } ≡ record { tick = t; weight = weightBefore was t + v; buckets = length (bucketsAfter s was t v xs) } = rw (weight, many) refl in
+    let is : record { tick = t; weight = c .weight-at-weight .result + v; buckets = c .insert-buckets .result } ≡ record
+    { tick = t; weight = weightBefore was t + v; buckets = length (bucketsAfter s was t v xs) } = rw (weight, many) refl in
     record {
       value = ap {B = Result Standing EnterFault} (λ (x : Standing). Ok x) is
-          ∙ ap (λ (r : Option EnterFault). unless r (record { tick = t; weight = weightBefore was t + v; buckets = length (bucketsAfter s was t v xs) })) (sym accepted);
+          ∙ ap (λ (r : Option EnterFault). unless r (record {
+            tick = t;
+            weight = weightBefore was t + v;
+            buckets = length
+                (bucketsAfter s was t v xs);
+          })) (sym accepted);
       after = laid-out ∙ ap (λ (r : Option EnterFault). changed r xs (padded (length xs) (bucketsAfter s was t v xs))) (sym accepted);
       keeps = (
         entered-sound s was t v xs (says .0) later fits (c .insert-buckets .result) (c .insert-buckets .last .stretch) many laid-out,

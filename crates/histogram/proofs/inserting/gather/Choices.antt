@@ -7,7 +7,8 @@ use Rattle.histogram.proofs.inserting.gather.Given as given
 
 abbrev pub Inv-loop-k : given.InvT-loop-k
 Inv-loop-k l =
-    (take (l .n) (l .held) ++ ownOf (l .e) (drop (l .k) (take (l .end) (l .stretch))) ≡ take (l .c) (l .entry .held) ++ ownOf (l .e) (drop (l .read) (take (l .end) (l .stretch))))
+    (take (l .n) (l .held) ++ ownOf (l .e) (drop (l .k) (take (l .end) (l .stretch))) ≡ take (l .c) (l .entry .held) ++ ownOf (l .e)
+    (drop (l .read) (take (l .end) (l .stretch))))
     × (l .k + l .c ≡ l .n + l .read) × (l .read ≤ l .k) × (l .k ≤ l .end) × (l .n ≤ length (l .held))
 
 abbrev pub μ-loop-k : given.MeasureT-loop-k

@@ -29,6 +29,7 @@ pub returns : need.returns
 returns c =
     let from = c .args .olds .now in
     let n = c .loop-n .n in
-    let r = all-moved (c .loop-n .held) (newer from) n (newer (drop (2 * n) from)) (ap newer (drop-all (2 * n) from (omega arith))) (c .loop-n .inv .0)
+    let r = all-moved (c .loop-n .held) (newer from) n (newer (drop (2 * n) from)) (ap newer (drop-all (2 * n) from (omega arith)))
+    (c .loop-n .inv .0)
     (omega (arith, length-newer-is from, c .pre .room, c .loop-n .kept .held)) in
     record { holds = r .0; many = r .1 }

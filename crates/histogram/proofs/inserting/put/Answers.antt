@@ -26,7 +26,8 @@ loop-k-holds c = sym (laid-none (c .args .write) (c .args .stretch .now))
 
 pub loop-k-again : need.loop-k-again
 loop-k-again c =
-    row-more (c .args .write) (c .args .e) (replicate (c .loop-k .k) (c .args .tick)) (c .args .stretch .now) (c .loop-k .stretch) (c .args .tick) (c .args .write + c .loop-k .k)
+    row-more (c .args .write) (c .args .e) (replicate (c .loop-k .k) (c .args .tick)) (c .args .stretch .now) (c .loop-k .stretch)
+    (c .args .tick) (c .args .write + c .loop-k .k)
     (omega (arith, length-replicate (c .loop-k .k) (c .args .tick))) (omega arith) (c .loop-k .inv)
     ∙ ap (λ (z : List ℕ). laid (c .args .write) (map (ofSize (c .args .e)) z) (c .args .stretch .now)) (replicate-more (c .loop-k .k) (c .args .tick))
 
@@ -35,9 +36,11 @@ loop-j-holds c = sym (laid-none (c .args .write + c .args .new) (c .loop-k .stre
 
 pub loop-j-again : need.loop-j-again
 loop-j-again c =
-    row-more (c .args .write + c .args .new) (c .args .e) (take (c .loop-j .j) (c .args .olds .now)) (c .loop-k .stretch) (c .loop-j .stretch) (getD (c .args .olds .now) (c .loop-j .j) 0) (c .args .write + c .args .new + c .loop-j .j)
+    row-more (c .args .write + c .args .new) (c .args .e) (take (c .loop-j .j) (c .args .olds .now)) (c .loop-k .stretch)
+    (c .loop-j .stretch) (getD (c .args .olds .now) (c .loop-j .j) 0) (c .args .write + c .args .new + c .loop-j .j)
     (omega (arith, length-take-le (c .loop-j .j) (c .args .olds .now) (omega arith))) (omega (arith, c .loop-k .kept .stretch)) (c .loop-j .inv)
-    ∙ ap (λ (z : List ℕ). laid (c .args .write + c .args .new) (map (ofSize (c .args .e)) z) (c .loop-k .stretch)) (sym (take-more (c .args .olds .now) (c .loop-j .j) 0 (omega arith)))
+    ∙ ap (λ (z : List ℕ). laid (c .args .write + c .args .new) (map (ofSize (c .args .e)) z) (c .loop-k .stretch))
+    (sym (take-more (c .args .olds .now) (c .loop-j .j) 0 (omega arith)))
 
 pub returns : need.returns
 returns c =
@@ -48,7 +51,8 @@ returns c =
     let xs = c .args .stretch .now in
     let k : c .loop-k .k ≡ c .args .new = omega arith in
     let j : c .loop-j .j ≡ length olds = omega arith in
-    let n : c .args .write + c .args .new ≡ o + length ws = omega (arith, length-map (replicate (c .args .new) (c .args .tick)) (ofSize e), length-replicate (c .args .new) (c .args .tick)) in
+    let n : c .args .write + c .args .new ≡ o + length ws = omega
+    (arith, length-map (replicate (c .args .new) (c .args .tick)) (ofSize e), length-replicate (c .args .new) (c .args .tick)) in
     let first : c .loop-k .stretch ≡ laid o ws xs = c .loop-k .inv ∙ ap (λ (z : ℕ). laid o (map (ofSize e) (replicate z (c .args .tick))) xs) k in
     record {
       laid = c .loop-j .inv

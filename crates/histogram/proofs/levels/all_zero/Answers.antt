@@ -15,9 +15,15 @@ loop-entry-again c =
 pub returns-then-stamps-eq0 : need.returns-then-stamps-eq0
 returns-then-stamps-eq0 c =
     let whole = take-all (c .loop-entry .entry-index) (c .args .part .now) (omega arith) in
-    record { value = zeros-then (c .args .part .now) (c .loop-entry .stamps) (c .loop-entry .exponents) (rw whole at (c .loop-entry .inv)) (c .if-stamps-eq0 .taken) }
+    record {
+      value = zeros-then (c .args .part .now) (c .loop-entry .stamps) (c .loop-entry .exponents) (rw whole at (c .loop-entry .inv))
+          (c .if-stamps-eq0 .taken);
+    }
 
 pub returns-else-stamps-eq0 : need.returns-else-stamps-eq0
 returns-else-stamps-eq0 c =
     let whole = take-all (c .loop-entry .entry-index) (c .args .part .now) (omega arith) in
-    record { value = zeros-else (c .args .part .now) (c .loop-entry .stamps) (c .loop-entry .exponents) (rw whole at (c .loop-entry .inv)) (c .if-stamps-eq0 .left) }
+    record {
+      value = zeros-else (c .args .part .now) (c .loop-entry .stamps) (c .loop-entry .exponents) (rw whole at (c .loop-entry .inv))
+          (c .if-stamps-eq0 .left);
+    }

@@ -16,7 +16,10 @@ pub returns-then-e-settings : need.returns-then-e-settings
 returns-then-e-settings c =
     let s = c .args .settings .now in
     let some = eqb-false (length (c .loop-rest .rest .now)) 0 (sym (c .loop-rest-test .ensures tt)) in
-    record { value = λ t. tail-over (s .half) (s .top) (c .loop-rest .e) (c .loop-rest .last) (c .loop-rest .rest .now) (omega (arith, some)) (c .if-e-settings .taken) (c .loop-rest .inv .0 t) }
+    record {
+      value = λ t. tail-over (s .half) (s .top) (c .loop-rest .e) (c .loop-rest .last) (c .loop-rest .rest .now)
+          (omega (arith, some)) (c .if-e-settings .taken) (c .loop-rest .inv .0 t);
+    }
 
 pub add-sizes : need.add-sizes
 add-sizes c =
@@ -34,7 +37,8 @@ loop-rest-again c =
     let m = summed (s .half) (c .loop-rest .e) n (c .loop-rest .sizes) (v .few) (omega arith) (s .few) (c .loop-rest .inv .3) in
     let sum : total rest ≡ n * 2 ^ c .loop-rest .e + total (drop n rest) =
     ap total (sym (take-append-drop n rest)) ∙ total-append (take n rest) (drop n rest)
-    ∙ ap (λ (x : ℕ). x + total (drop n rest)) (level-total (c .loop-rest .e) (c .loop-rest .last) (take n rest) (v .level) ∙ ap (λ (x : ℕ). x * 2 ^ c .loop-rest .e) (length-take-le n rest (v .inside))) in
+    ∙ ap (λ (x : ℕ). x + total (drop n rest)) (level-total (c .loop-rest .e) (c .loop-rest .last) (take n rest) (v .level) ∙ ap
+    (λ (x : ℕ). x * 2 ^ c .loop-rest .e) (length-take-le n rest (v .inside))) in
     rw (m .shifted, take-rest rest n) (
       (λ t. tail-after (s .half) (s .top) (c .loop-rest .e) (c .loop-rest .last) n rest v (c .loop-rest .inv .0 t)),
       (λ t. c .loop-rest .inv .1 (tail-before (s .half) (s .top) (c .loop-rest .e) (c .loop-rest .last) n rest v t)),
@@ -50,7 +54,8 @@ returns c =
     let over : rest ≡ [] = nil-from-length rest (eqb-true (length rest) 0 (sym (c .loop-rest-test .ensures tt))) in
     record {
       value = (
-        c .loop-rest .inv .1 (subst (Tail (s .half) (s .top) (c .loop-rest .e) (c .loop-rest .last)) (sym over) (tail-end (s .half) (s .top) (c .loop-rest .e) (c .loop-rest .last) (c .loop-rest .inv .4))),
+        c .loop-rest .inv .1 (subst (Tail (s .half) (s .top) (c .loop-rest .e) (c .loop-rest .last)) (sym over)
+            (tail-end (s .half) (s .top) (c .loop-rest .e) (c .loop-rest .last) (c .loop-rest .inv .4))),
         omega (arith, ap total over, c .loop-rest .inv .2),
       );
     }

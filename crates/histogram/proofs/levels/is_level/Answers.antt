@@ -22,14 +22,21 @@ returns-then-bucket-e c =
       | then-bucket-e·by·then-bucket-e w ↦ inl (w .if-bucket-e .taken)
       | then-bucket-e·by·else-bucket-e·then-bucket-before w ↦ inr (w .if-bucket-before .taken)
     ] in
-    record { value = sym (level-no (c .args .e) (c .loop-bucket .before) (getD xs k zeroEntry) (drop (k + 1) xs) (drop k xs) here no) ∙ c .loop-bucket .inv }
+    record {
+      value = sym (level-no (c .args .e) (c .loop-bucket .before) (getD xs k zeroEntry) (drop (k + 1) xs) (drop k xs) here no) ∙
+          c .loop-bucket .inv;
+    }
 
 pub loop-bucket-again : need.loop-bucket-again
 loop-bucket-again c =
     let k = c .loop-bucket .bucket-index in
     let xs = c .args .part .now in
-    sym (level-yes (c .args .e) (c .loop-bucket .before) (getD xs k zeroEntry) (drop (k + 1) xs) (drop k xs) (drop-more xs k zeroEntry (c .loop-bucket-test .taken)) (c .if-bucket-e .left) (c .if-bucket-before .left))
+    sym (level-yes (c .args .e) (c .loop-bucket .before) (getD xs k zeroEntry) (drop (k + 1) xs) (drop k xs)
+    (drop-more xs k zeroEntry (c .loop-bucket-test .taken)) (c .if-bucket-e .left) (c .if-bucket-before .left))
     ∙ c .loop-bucket .inv
 
 pub returns : need.returns
-returns c = record { value = sym (ap (levelled (c .args .e) (c .loop-bucket .before)) (drop-all (c .loop-bucket .bucket-index) (c .args .part .now) (omega arith))) ∙ c .loop-bucket .inv }
+returns c = record {
+  value = sym (ap (levelled (c .args .e) (c .loop-bucket .before))
+      (drop-all (c .loop-bucket .bucket-index) (c .args .part .now) (omega arith))) ∙ c .loop-bucket .inv;
+}

@@ -17,14 +17,17 @@ returns-then-not-is-level c = record {
   value = λ r t.
       let rest = c .args .rest .now in
       let sure = c .min-sure .result in
-      let front : levelled (c .args .e) (c .args .last) (take sure rest) ≡ true = tail-front (c .args .half) r (c .args .e) (c .args .last) rest t sure (omega arith) (omega arith) in
+      let front : levelled (c .args .e) (c .args .last) (take sure rest) ≡ true = tail-front (c .args .half) r (c .args .e) (c .args .last)
+      rest t sure (omega arith) (omega arith) in
       let z : sure - 0 ≡ sure = omega arith in
-      false≢true (sym (c .if-not-is-level .taken) ∙ c .is-level .ensures .value ∙ ap (λ (n : ℕ). levelled (c .args .e) (c .args .last) (take n rest)) z ∙ front);
+      false≢true (sym (c .if-not-is-level .taken) ∙ c .is-level .ensures .value ∙ ap
+      (λ (n : ℕ). levelled (c .args .e) (c .args .last) (take n rest)) z ∙ front);
 }
 
 pub returns-then-next-rest : need.returns-then-next-rest
 returns-then-next-rest c = record {
-  value = λ r t. tail-rises (c .args .half) r (c .args .e) (c .args .last) (c .min-sure .result) (c .args .rest .now) zeroEntry (omega arith) (omega arith) (c .if-next-rest .taken) t;
+  value = λ r t. tail-rises (c .args .half) r (c .args .e) (c .args .last) (c .min-sure .result) (c .args .rest .now) zeroEntry
+      (omega arith) (omega arith) (c .if-next-rest .taken) t;
 }
 
 pub returns-then-next-e : need.returns-then-next-e
@@ -36,7 +39,8 @@ returns-then-next-e c =
     ap (λ (n : ℕ). levelled (c .args .e) (c .args .last) (take n rest)) z ∙ sym (c .is-level .ensures .value) ∙ c .if-not-is-level .left in
     record {
       value = record {
-        level = level-more (c .args .e) (c .args .last) sure rest zeroEntry front (omega arith) (omega arith) (c .if-next-e .taken) (c .if-next-rest .left);
+        level = level-more (c .args .e) (c .args .last) sure rest zeroEntry front (omega arith) (omega arith) (c .if-next-e .taken)
+            (c .if-next-rest .left);
         some = omega arith;
         few = omega arith;
         inside = omega arith;

@@ -15,4 +15,7 @@ returns c =
     let n : ℕ = length xs in
     let d : 0 + length (zeros (n - 0)) ≡ n = omega (arith, length-replicate (n - 0) zeroEntry) in
     let z : n - 0 ≡ n = omega arith in
-    record { cleared = c .zero .ensures .zeroed ∙ ap (λ (ys : List Entry). zeros (n - 0) ++ ys) (drop-all (0 + length (zeros (n - 0))) xs (omega (arith, d))) ∙ append-nil (zeros (n - 0)) ∙ ap zeros z }
+    record {
+      cleared = c .zero .ensures .zeroed ∙ ap (λ (ys : List Entry). zeros (n - 0) ++ ys)
+          (drop-all (0 + length (zeros (n - 0))) xs (omega (arith, d))) ∙ append-nil (zeros (n - 0)) ∙ ap zeros z;
+    }

@@ -4,4 +4,7 @@ use denote.Ref.{now}
 use Rattle.histogram.proofs.moves.move_to.Needs as need
 
 pub returns : need.returns
-returns c = record { moved = c .copy-within .ensures .after ∙ copied (c .args .stretch .now) (c .args .o) (c .args .i) (c .args .b) (c .pre .places .0) (c .pre .places .1 .0) }
+returns c = record {
+  moved = c .copy-within .ensures .after ∙ copied (c .args .stretch .now) (c .args .o) (c .args .i) (c .args .b)
+      (c .pre .places .0) (c .pre .places .1 .0);
+}

@@ -13,8 +13,11 @@ use Rattle.histogram.proofs.moves.zero.Needs as need
 
 pub loop-k-holds : need.loop-k-holds
 loop-k-holds c =
-    let z : 0 ≡ c .args .from - c .args .from = omega arith in
-    (sym (laid-none (c .args .from) (c .args .stretch .now)) ∙ ap (λ (k : ℕ). laid (c .args .from) (zeros k) (c .args .stretch .now)) z, omega arith, omega arith)
+    let z : 0 ≡ c .args .from - c .args .from = omega arith in (
+      sym (laid-none (c .args .from) (c .args .stretch .now)) ∙ ap (λ (k : ℕ). laid (c .args .from) (zeros k) (c .args .stretch .now)) z,
+      omega arith,
+      omega arith,
+    )
 
 pub loop-k-again : need.loop-k-again
 loop-k-again c =

@@ -28,7 +28,8 @@ returns-then-stretch-most c =
       value = surveyed-none s (c .args .own) b (c .args .window) (c .args .at) xs (λ f.
           elim (c .then-stretch-most .came) [
             | then-stretch-most·by·then-stretch-most w ↦ omega (arith, w .if-stretch-most .taken, f .roomy, c .room-most .ensures .value)
-            | then-stretch-most·by·else-stretch-most·then-buckets-most w ↦ omega (arith, w .if-buckets-most .taken, f .few, c .room-most .ensures .value)
+            | then-stretch-most·by·else-stretch-most·then-buckets-most w ↦ omega
+                (arith, w .if-buckets-most .taken, f .few, c .room-most .ensures .value)
             | then-stretch-most·by·else-stretch-most·else-buckets-most·then-not-all-zero w ↦
                 false≢true (sym (w .if-not-all-zero .taken) ∙ w .all-zero .ensures .value ∙ ap (every isZero) (take-rest xs b) ∙ f .past)
           ]);
@@ -39,8 +40,10 @@ returns-in-Break-sizes c =
     let s = c .args .settings .now in
     let z : c .args .buckets ≡ c .args .buckets - 0 = omega arith in
     record {
-      value = c .from-residual .ensures ∙ surveyed-none s (c .args .own) (c .args .buckets) (c .args .window) (c .args .at) (c .args .stretch .now) (λ f.
-          c .in-Break-sizes .ensures tt .value (subst (λ (n : ℕ). Tail (s .half) (s .top) 0 (c .args .own) (take n (c .args .stretch .now))) z (buckets-tail (s .half) (s .top) (s .window) (c .args .own) (take (c .args .buckets) (c .args .stretch .now)) (f .buckets))));
+      value = c .from-residual .ensures ∙ surveyed-none s (c .args .own) (c .args .buckets) (c .args .window) (c .args .at)
+          (c .args .stretch .now) (λ f.
+          c .in-Break-sizes .ensures tt .value (subst (λ (n : ℕ). Tail (s .half) (s .top) 0 (c .args .own) (take n (c .args .stretch .now)))
+          z (buckets-tail (s .half) (s .top) (s .window) (c .args .own) (take (c .args .buckets) (c .args .stretch .now)) (f .buckets))));
     }
 
 pub returns-then-not-oldest-lives : need.returns-then-not-oldest-lives
@@ -50,7 +53,8 @@ returns-then-not-oldest-lives c =
     let z : c .args .buckets - 0 ≡ c .args .buckets = omega arith in
     record {
       value = surveyed-none s (c .args .own) (c .args .buckets) (c .args .window) (c .args .at) xs (λ f.
-          false≢true (c .if-not-oldest-lives .ensures tt .value ∙ ap (λ (n : ℕ). lives (s .window) (c .args .own) (take n xs)) z ∙ buckets-live (s .half) (s .top) (s .window) (c .args .own) (take (c .args .buckets) xs) (f .buckets)));
+          false≢true (c .if-not-oldest-lives .ensures tt .value ∙ ap (λ (n : ℕ). lives (s .window) (c .args .own) (take n xs)) z ∙
+          buckets-live (s .half) (s .top) (s .window) (c .args .own) (take (c .args .buckets) xs) (f .buckets)));
     }
 
 pub windowed-requires : need.windowed-requires
@@ -60,7 +64,8 @@ windowed-requires c κs =
     let f = tail-facts (s .half) (s .top) (c .args .own) (take (c .args .buckets - 0) (c .args .stretch .now)) (found .0) in
     record {
       falling = f .falling;
-      small = all-weaker (λ b. b .exponent ≤ s .top) (λ b. b .exponent ≤ 30) (λ b q. omega (arith, q, s .small)) (take (c .args .buckets - 0) (c .args .stretch .now)) (f .small);
+      small = all-weaker (λ b. b .exponent ≤ s .top) (λ b. b .exponent ≤ 30) (λ b q. omega (arith, q, s .small))
+          (take (c .args .buckets - 0) (c .args .stretch .now)) (f .small);
       sum = found .1;
     }
 
@@ -70,10 +75,13 @@ returns c =
     let b = c .args .buckets in
     let xs = c .args .stretch .now in
     let z : b - 0 ≡ b = omega arith in
-    let tail : Tail (s .half) (s .top) 0 (c .args .own) (take b xs) = subst (λ (n : ℕ). Tail (s .half) (s .top) 0 (c .args .own) (take n xs)) z (c .in-Continue-sizes .ensures tt .value .0) in
-    let live : lives (s .window) (c .args .own) (take b xs) ≡ true = ap (λ (n : ℕ). lives (s .window) (c .args .own) (take n xs)) (sym z) ∙ sym (c .if-not-oldest-lives .ensures tt .value) in
+    let tail : Tail (s .half) (s .top) 0 (c .args .own) (take b xs) = subst
+    (λ (n : ℕ). Tail (s .half) (s .top) 0 (c .args .own) (take n xs)) z (c .in-Continue-sizes .ensures tt .value .0) in
+    let live : lives (s .window) (c .args .own) (take b xs) ≡ true = ap (λ (n : ℕ). lives (s .window) (c .args .own) (take n xs)) (sym z) ∙
+    sym (c .if-not-oldest-lives .ensures tt .value) in
     record {
-      value = ap {B = Option Survey} (λ (v : Survey). Some v) (c .windowed .ensures .value ∙ ap (λ (n : ℕ). told (within (c .args .window) (c .args .at) (take n xs))) z)
+      value = ap {B = Option Survey} (λ (v : Survey). Some v) (c .windowed .ensures .value ∙ ap
+          (λ (n : ℕ). told (within (c .args .window) (c .args .at) (take n xs))) z)
           ∙ surveyed-some s (c .args .own) b (c .args .window) (c .args .at) xs (record {
             roomy = omega (arith, c .room-most .ensures .value, c .if-stretch-most .left);
             few = omega (arith, c .room-most .ensures .value, c .if-buckets-most .left);

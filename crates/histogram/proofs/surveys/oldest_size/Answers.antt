@@ -16,5 +16,9 @@ shl-result c = omega (arith, all-getD (λ b. b .exponent ≤ 30) (c .args .bucke
 pub returns-else-n-eq0 : need.returns-else-n-eq0
 returns-else-n-eq0 c =
     let bs = c .args .buckets .now in
-    let small : getD bs (c .args .n - 1) zeroEntry .exponent ≤ 30 = all-getD (λ b. b .exponent ≤ 30) bs (c .args .n - 1) zeroEntry (omega arith) (c .pre .small) in
-    record { value = one-shl (getD bs (c .args .n - 1) zeroEntry .exponent) 64 (omega arith) ∙ sym (oldest-at 0 (c .args .n) bs zeroEntry (omega arith) (c .pre .place)) }
+    let small : getD bs (c .args .n - 1) zeroEntry .exponent ≤ 30 = all-getD (λ b. b .exponent ≤ 30) bs (c .args .n - 1) zeroEntry
+    (omega arith) (c .pre .small) in
+    record {
+      value = one-shl (getD bs (c .args .n - 1) zeroEntry .exponent) 64 (omega arith) ∙ sym
+          (oldest-at 0 (c .args .n) bs zeroEntry (omega arith) (c .pre .place));
+    }

@@ -27,16 +27,29 @@ shl-left c = omega (arith, all-getD (λ b. b .exponent ≤ 30) (c .args .buckets
 pub sub-left : need.sub-left
 sub-left c =
     let bs = c .args .buckets .now in
-    let small : getD bs (c .loop-n .n - 1) zeroEntry .exponent ≤ 30 = all-getD (λ b. b .exponent ≤ 30) bs (c .loop-n .n - 1) zeroEntry (omega arith) (c .pre .small) in
-    omega (arith, one-shl (getD bs (c .loop-n .n - 1) zeroEntry .exponent) 64 (omega arith), total-less bs (c .loop-n .n) zeroEntry (omega arith) (omega arith), c .loop-n .inv .1)
+    let small : getD bs (c .loop-n .n - 1) zeroEntry .exponent ≤ 30 = all-getD (λ b. b .exponent ≤ 30) bs (c .loop-n .n - 1) zeroEntry
+    (omega arith) (c .pre .small) in
+    omega (
+      arith,
+      one-shl (getD bs (c .loop-n .n - 1) zeroEntry .exponent) 64 (omega arith),
+      total-less bs (c .loop-n .n) zeroEntry
+          (omega arith) (omega arith),
+      c .loop-n .inv .1,
+    )
 
 pub loop-n-again : need.loop-n-again
 loop-n-again c =
     let bs = c .args .buckets .now in
     let n = c .loop-n .n in
     let small : getD bs (n - 1) zeroEntry .exponent ≤ 30 = all-getD (λ b. b .exponent ≤ 30) bs (n - 1) zeroEntry (omega arith) (c .pre .small) in (
-      drop-last (c .args .window) (c .args .at) bs n zeroEntry (omega arith) (omega arith) (sym (c .if-not-in-window .ensures tt .value)) ∙ c .loop-n .inv .0,
-      omega (arith, one-shl (getD bs (n - 1) zeroEntry .exponent) 64 (omega arith), total-less bs n zeroEntry (omega arith) (omega arith), c .loop-n .inv .1),
+      drop-last (c .args .window) (c .args .at) bs n zeroEntry (omega arith) (omega arith) (sym (c .if-not-in-window .ensures tt .value)) ∙
+          c .loop-n .inv .0,
+      omega (
+        arith,
+        one-shl (getD bs (n - 1) zeroEntry .exponent) 64 (omega arith),
+        total-less bs n zeroEntry (omega arith) (omega arith),
+        c .loop-n .inv .1,
+      ),
       omega arith,
     )
 
@@ -46,10 +59,12 @@ returns c =
     let n = c .loop-n .n in
     let live : 0 < n → c .args .at < getD bs (n - 1) zeroEntry .stamp + c .args .window =
     elim (c .loop-n-test .came) [
-      | then-loop-n-test·else-not-in-window w ↦ λ _. ltb-true (c .args .at) (getD bs (n - 1) zeroEntry .stamp + c .args .window) (sym (w .if-not-in-window .ensures tt .value))
+      | then-loop-n-test·else-not-in-window w ↦ λ _. ltb-true (c .args .at) (getD bs (n - 1) zeroEntry .stamp + c .args .window)
+          (sym (w .if-not-in-window .ensures tt .value))
       | else-loop-n-test w ↦ λ h. absurd (omega (arith, w .loop-n-test .left, h))
     ] in
-    let front : take n bs ≡ within (c .args .window) (c .args .at) bs = sym (front-within (c .args .window) (c .args .at) bs n zeroEntry (c .pre .falling) (c .loop-n .inv .2) live) ∙ c .loop-n .inv .0 in
+    let front : take n bs ≡ within (c .args .window) (c .args .at) bs = sym
+    (front-within (c .args .window) (c .args .at) bs n zeroEntry (c .pre .falling) (c .loop-n .inv .2) live) ∙ c .loop-n .inv .0 in
     let many : n ≡ length (take n bs) = sym (length-take-le n bs (c .loop-n .inv .2)) in
     let all : record { buckets = n; sizes = c .loop-n .left; oldest = c .oldest-size .result } ≡ told (take n bs) =
     rw (← many, c .loop-n .inv .1, c .oldest-size .ensures .value) refl in

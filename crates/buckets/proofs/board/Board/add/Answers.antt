@@ -41,8 +41,19 @@ returns-in-Ok c =
     let left = c .if-tick-eq-LONGEST-WINDOW .left in
     let e = c .in-Ok .ensures tt in
     let is = next b (c .args .count) (c .pre .small) left (Ok (c .in-Ok .standing)) (e .value) in
-    record { after = (next-buckets b (c .args .count) (c .pre .small) left (c .in-Ok .standing .buckets) (c .enter .last .stretch) (is .1) (e .after), refl, is .0, refl) }
+    record {
+      after = (
+        next-buckets b (c .args .count) (c .pre .small) left (c .in-Ok .standing .buckets) (c .enter .last .stretch) (is .1)
+            (e .after),
+        refl,
+        is .0,
+        refl,
+      );
+    }
 
 pub returns-in-Err : need.returns-in-Err
 returns-in-Err c =
-    record { after = absurd (next (c .args .self .now) (c .args .count) (c .pre .small) (c .if-tick-eq-LONGEST-WINDOW .left) (Err (c .in-Err .field-0)) (c .in-Err .ensures tt .value)) }
+    record {
+      after = absurd (next (c .args .self .now) (c .args .count) (c .pre .small) (c .if-tick-eq-LONGEST-WINDOW .left)
+          (Err (c .in-Err .field-0)) (c .in-Err .ensures tt .value));
+    }
