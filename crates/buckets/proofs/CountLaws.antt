@@ -30,7 +30,7 @@ use Rattle.std.specs.shelf.Lists.{All}
 use Rattle.theory.proofs.FullLaws.{batch-of, within-all}
 use Rattle.theory.proofs.SoundLaws.{sound-says}
 use Rattle.theory.proofs.Views.{cap}
-use Rattle.theory.specs.Buckets.{insertions, most, top, total}
+use Rattle.theory.specs.Buckets.{insertions, closingFigure, top, total}
 use Rattle.theory.specs.Sound.{every, formed, isZero, sound, zeros}
 use Rattle.theory.specs.declared.entries.Entry.{Entry}
 
@@ -38,7 +38,7 @@ any-all : (P : Entry → Type 0) → ((b : Entry) → P b) → (bs : List Entry)
 any-all P f [] = tt
 any-all P f (b ∷ bs) = (f b, any-all P f bs)
 
-closing : (l r N R x : ℕ) → N * R ≤ l * (2 ^ (r + 1) - 1) → x ≤ N * R → x ≤ most l r
+closing : (l r N R x : ℕ) → N * R ≤ l * (2 ^ (r + 1) - 1) → x ≤ N * R → x ≤ closingFigure l r
 closing l r N R x h g = omega (arith, h, g, mul-le-mul-right (2 ^ (r + 1) - 1) (more l))
   where
     more : (l : ℕ) → l ≤ l + 1
@@ -65,7 +65,7 @@ module _ (b : Board) (v : ℕ) (small : v ≤ 960) (left : b .standing .tick + 1
   product : s .window * s .cap ≡ 1048576 * 1024
   product = ap₂ (λ (x y : ℕ). x * y) (b .window) (b .cap)
 
-  fits : total (keptAt s (b .standing) t (b .entries)) + v ≤ most (s .half) (s .top)
+  fits : total (keptAt s (b .standing) t (b .entries)) + v ≤ closingFigure (s .half) (s .top)
   fits =
       closing (s .half) (s .top) (s .window) (s .cap) (total (keptAt s (b .standing) t (b .entries)) + v) (s .last)
       (omega (arith, ap total all-kept, b .sum, b .counts, small, early, product))

@@ -20,7 +20,7 @@ use Rattle.theory.proofs.KeepLaws.{dropping-keeps, insertions-keep, own-keeps, 
 use Rattle.theory.proofs.SoundLaws.{SoundBuckets, sound-says}
 use Rattle.theory.proofs.Views.{cap}
 use Rattle.theory.specs.Arrivals.{Falling, Keeps}
-use Rattle.theory.specs.Buckets.{most, stamps, top, total, within}
+use Rattle.theory.specs.Buckets.{closingFigure, stamps, top, total, within}
 use Rattle.theory.specs.Sound.{every, formed, isZero, sound, soundBuckets, zeroEntry, zeros}
 use Rattle.theory.specs.declared.entries.Entry.{Entry}
 
@@ -80,7 +80,7 @@ module _ (s : Settings) (was : Standing) (t v : ℕ) (xs : List Entry)
   pub enter-past : every isZero (drop (was .buckets) xs) ≡ true
   enter-past = facts .past
 
-  module _ (fits : total (keptAt s was t xs) + v ≤ most (s .half) (s .top)) where
+  module _ (fits : total (keptAt s was t xs) + v ≤ closingFigure (s .half) (s .top)) where
     abbrev new : List Entry
     new = bucketsAfter s was t v xs
 
@@ -119,18 +119,18 @@ module _ (s : Settings) (was : Standing) (t v : ℕ) (xs : List Entry)
 
     pub not-refused : weightBefore was t + v ≤ s .cap → refusal s was t v xs ≡ None
     not-refused cap =
-        let full : cond (ltb (most (s .half) (s .top)) (total (keptAt s was t xs) + v)) (Some Full) None ≡ None =
-        cond-false (ltb (most (s .half) (s .top)) (total (keptAt s was t xs) + v)) (Some Full) None
-        (le-ltb (most (s .half) (s .top)) (total (keptAt s was t xs) + v) fits) in
+        let full : cond (ltb (closingFigure (s .half) (s .top)) (total (keptAt s was t xs) + v)) (Some Full) None ≡ None =
+        cond-false (ltb (closingFigure (s .half) (s .top)) (total (keptAt s was t xs) + v)) (Some Full) None
+        (le-ltb (closingFigure (s .half) (s .top)) (total (keptAt s was t xs) + v) fits) in
         let over : cond (ltb (s .cap) (weightBefore was t + v)) (Some OverCap)
-        (cond (ltb (most (s .half) (s .top)) (total (keptAt s was t xs) + v)) (Some Full) None) ≡ None =
+        (cond (ltb (closingFigure (s .half) (s .top)) (total (keptAt s was t xs) + v)) (Some Full) None) ≡ None =
         cond-false (ltb (s .cap) (weightBefore was t + v)) (Some OverCap)
-        (cond (ltb (most (s .half) (s .top)) (total (keptAt s was t xs) + v)) (Some Full) None)
+        (cond (ltb (closingFigure (s .half) (s .top)) (total (keptAt s was t xs) + v)) (Some Full) None)
         (le-ltb (s .cap) (weightBefore was t + v) cap) ∙ full in
         cond-false (ltb t (was .tick)) (Some Early) (cond (sound (s .half) (s .top) (s .window) (was .tick) (was .buckets) xs)
         (cond (ltb (s .cap) (weightBefore was t + v)) (Some OverCap) (cond
-        (ltb (most (s .half) (s .top)) (total (keptAt s was t xs) + v)) (Some Full) None)) (Some Unsound)) (le-ltb t (was .tick) later)
+        (ltb (closingFigure (s .half) (s .top)) (total (keptAt s was t xs) + v)) (Some Full) None)) (Some Unsound)) (le-ltb t (was .tick) later)
         ∙ cond-true (sound (s .half) (s .top) (s .window) (was .tick) (was .buckets) xs)
         (cond (ltb (s .cap) (weightBefore was t + v)) (Some OverCap) (cond
-        (ltb (most (s .half) (s .top)) (total (keptAt s was t xs) + v)) (Some Full) None)) (Some Unsound) yes
+        (ltb (closingFigure (s .half) (s .top)) (total (keptAt s was t xs) + v)) (Some Full) None)) (Some Unsound) yes
         ∙ over

@@ -17,7 +17,7 @@ use Rattle.theory.proofs.PushLaws.{all-canon}
 use Rattle.theory.proofs.SizeLaws.{all-total, few-levels}
 use Rattle.theory.proofs.TopLaws.{length-flat}
 use Rattle.theory.proofs.Views.{kept}
-use Rattle.theory.specs.Buckets.{insertions, most, total}
+use Rattle.theory.specs.Buckets.{insertions, closingFigure, total}
 use Rattle.theory.specs.Levels.{Canonical, flat, pushAll}
 use Rattle.theory.specs.Sound.{every, formed, isZero, zeroEntry, zeros}
 use Rattle.theory.specs.declared.entries.Entry.{Entry}
@@ -29,12 +29,12 @@ pub record Start (l t v kept : ℕ) (xs : List Entry) : Type 0 where
   pub same : insertions l v t (take kept xs) ≡ raised l t v 0 [] levels
 
 pub start : (l r t v kept : ℕ) (xs : List Entry) → 1 ≤ l → r ≤ 30 → (l + 1) * (r + 1) ≤ length xs → formed l t (take kept xs) ≡ true
-    → total (take kept xs) + v ≤ most l r → Start l t v kept xs
+    → total (take kept xs) + v ≤ closingFigure l r → Start l t v kept xs
 start l r t v kept xs one small room form fits =
     let by = insertions-by-levels l t v (take kept xs) one form in
     let after : List (List ℕ) = pushAll l (replicate v t) (by .0) in
     let ca : Canonical l after = all-canon l one (replicate v t) (by .0) (by .1) in
-    let sizes : total (flat 0 after) ≤ most l r = omega (
+    let sizes : total (flat 0 after) ≤ closingFigure l r = omega (
       arith,
       all-total l one (replicate v t) (by .0) (by .1),
       length-replicate v t,

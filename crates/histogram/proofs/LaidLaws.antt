@@ -1,13 +1,13 @@
 -- A list with another written over it.
-use mathlib.Core.List.{List, [], _++_, _∷_, append-assoc}
+use mathlib.Core.List.{List, [], _++_, _∷_, append-assoc, map}
 use mathlib.Core.Path.{_∙_, _≡_, ap, ap₂, refl, subst, sym}
 use native.Mathlib.Omega.{arith}
 use Prim.Native.Nat.{_+_, _-_, _/_, _<_, _≤_, suc, zero, ℕ}
 use lib.Dec.{eqb}
 use lib.ListN.{drop, getD, length, set, take}
 use lib.Seq.{paste}
-use Rattle.histogram.specs.Raising.{laid, ownOf}
-use Rattle.std.proofs.shelf.Lists.{append-nil, drop-at, drop-drop, drop-more, getD-take, length-append, length-drop, length-push, length-take-le, set-append-right, take-append-drop, take-append-le, take-at, take-more-set, take-take}
+use Rattle.histogram.specs.Raising.{laid, ofSize, ownOf}
+use Rattle.std.proofs.shelf.Lists.{append-nil, drop-at, drop-drop, drop-more, getD-take, length-append, length-drop, length-map, length-push, length-take-le, map-push, set-append-right, take-append-drop, take-append-le, take-at, take-more-set, take-take}
 use Rattle.std.proofs.shelf.Parts.{between-is}
 use Rattle.std.proofs.shelf.Tests.{cond-false, cond-true, eq-eqb, ne-eqb}
 use Rattle.theory.specs.Levels.{newer}
@@ -138,3 +138,13 @@ copied {X} xs o i b h g =
     let n : b - i ≡ length (drop i (take b xs)) = omega (arith, length-drop i (take b xs), length-take-le b xs g) in
     append-assoc (take o xs) (take (b - i) (drop i xs)) (drop (o + (b - i)) xs)
     ∙ ap₂ (λ (zs : List X) (k : ℕ). take o xs ++ (zs ++ drop (o + k) xs)) (between-is xs i b) n
+
+-- one more of a row of buckets is written
+pub row-more : (o e : ℕ) (ss : List ℕ) (xs ys : List Entry) (s at : ℕ) → at ≡ o + length ss → at < length xs
+    → ys ≡ laid o (map (ofSize e) ss) xs → set ys at (ofSize e s) ≡ laid o (map (ofSize e) (ss ++ s ∷ [])) xs
+row-more o e ss xs ys s at q h w =
+    let n : at ≡ o + length (map (ofSize e) ss) = omega (arith, length-map ss (ofSize e)) in
+    ap (λ (z : List Entry). set z at (ofSize e s)) w
+    ∙ ap (λ (k : ℕ). set (laid o (map (ofSize e) ss) xs) k (ofSize e s)) n
+    ∙ laid-more o (map (ofSize e) ss) xs (ofSize e s) (omega arith)
+    ∙ ap (λ (z : List Entry). laid o z xs) (sym (map-push (ofSize e) ss s))

@@ -10,7 +10,7 @@ use Rattle.std.specs.declared.option.Option.the-variants.{Some, None}
 use Rattle.std.specs.declared.result.Result.{Result}
 use Rattle.std.specs.declared.result.Result.the-variants.{Ok, Err}
 use Rattle.theory.specs.Arrivals.{Keeps}
-use Rattle.theory.specs.Buckets.{total, insertions, within, most}
+use Rattle.theory.specs.Buckets.{total, insertions, within, closingFigure}
 use Rattle.theory.specs.Sound.{zeros, sound}
 use Rattle.theory.specs.declared.entries.Entry.{Entry}
 use Rattle.histogram.specs.declared.entering.EnterFault.{EnterFault}
@@ -40,7 +40,7 @@ refusal s was t v stretch =
     cond (ltb t (was .tick)) (Some Early)
     (cond (sound (s .half) (s .top) (s .window) (was .tick) (was .buckets) stretch)
     (cond (ltb (s .cap) (weightBefore was t + v)) (Some OverCap)
-    (cond (ltb (most (s .half) (s .top)) (total (keptAt s was t stretch) + v)) (Some Full) None))
+    (cond (ltb (closingFigure (s .half) (s .top)) (total (keptAt s was t stretch) + v)) (Some Full) None))
     (Some Unsound))
 
 abbrev pub unless : {T : Type 0} → Option EnterFault → T → Result T EnterFault

@@ -16,9 +16,13 @@ abbrev pub Exponent : (l m : ℕ) → Option ℕ → Type 0
 Exponent l m (Some r) = Largest l m r
 Exponent l m None = (l ≡ 0) ⊎ (m ≡ 0)
 
+-- the most buckets that there can be: l + 1 of each exponent up to r
+abbrev pub mostBuckets : (l r : ℕ) → ℕ
+mostBuckets l r = (l + 1) * (r + 1)
+
 -- how many entries a stretch must have
 abbrev pub room : (l r : ℕ) → ℕ
-room l r = (l + 1) * (r + 1) + 1
+room l r = mostBuckets l r + 1
 
 -- k is even, and from 2 to 32
 abbrev pub GoodK : ℕ → Type 0

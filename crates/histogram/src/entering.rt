@@ -2,7 +2,7 @@
 ghost use mathlib.Core.Path.{_≡_};
 ghost use Prim.Native.Nat.{_+_};
 ghost use lib.Dec.{leb};
-ghost use Rattle.theory.specs.Buckets.{most};
+ghost use Rattle.theory.specs.Buckets.{closingFigure};
 ghost use Rattle.histogram.specs.Entering.{standing, stretchAfter, weightBefore, Entered};
 use super::inserting::insert;
 use super::settings::Settings;
@@ -34,9 +34,9 @@ pub enum EnterFault {
 impl Settings {
     /// Whether buckets of `sizes` in all and `arrivals` more stay within the closing figure.
     pub fn fits(&self, sizes: u64, arrivals: u64) -> bool
-        ensures value { λ a. ⌜ a ≡ leb (sizes + arrivals) (most (self .entry .now .half) (self .entry .now .top)) ⌝ }
+        ensures value { λ a. ⌜ a ≡ leb (sizes + arrivals) (closingFigure (self .entry .now .half) (self .entry .now .top)) ⌝ }
     {
-        let most = self.most();
+        let most = self.closing_figure();
         sizes <= most && arrivals <= most - sizes
     }
 }

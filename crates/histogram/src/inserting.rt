@@ -8,7 +8,7 @@ ghost use mathlib.Core.List.{List, _++_, map};
 ghost use mathlib.Core.Path.{_≡_};
 ghost use Prim.Native.Nat.{ℕ, _+_, _-_, _*_, _^_, _<_, _≤_};
 ghost use lib.ListN.{length, take, drop, replicate};
-ghost use Rattle.theory.specs.Buckets.{insertions, total, most};
+ghost use Rattle.theory.specs.Buckets.{insertions, total, closingFigure};
 ghost use Rattle.theory.specs.Levels.{newer, staying};
 ghost use Rattle.theory.specs.Sound.{every, isZero, formed};
 ghost use Rattle.histogram.specs.Entering.{padded};
@@ -19,7 +19,7 @@ use super::settings::Settings;
 use theory::Entry;
 
 /// The most stamps that a level holds at once: l + 1 from below and l + 1 of its own, with l up to 16.
-const MOST_HELD: usize = 36;
+const MOST_HELD: usize = 34;
 
 /// One level's turn.
 #[derive(Clone, Copy)]
@@ -73,10 +73,10 @@ fn gather(stretch: &[Entry], read: usize, end: usize, e: u64, held: &mut [u64], 
     n
 }
 
-/// Writes `new` buckets of stamp `tick` and then those of the stamps `olds`, all of exponent `e`, from `write` on.
-fn put(stretch: &mut [Entry], write: usize, e: u64, tick: u64, new: usize, olds: &[u64])
-    requires room { ⌜ write + (new + length (now olds)) ≤ length (now stretch) ⌝ }
-    ensures laid { λ _. ⌜ now (stretch .exit) ≡ laid write (map (ofSize e) (replicate new tick ++ now (olds .entry))) (now (stretch .entry)) ⌝ }
+/// Writes `new` buckets of stamp `tick` and exponent `e` from `write` on.
+fn put_new(stretch: &mut [Entry], write: usize, e: u64, tick: u64, new: usize)
+    requires room { ⌜ write + new ≤ length (now stretch) ⌝ }
+    ensures laid { λ _. ⌜ now (stretch .exit) ≡ laid write (map (ofSize e) (replicate new tick)) (now (stretch .entry)) ⌝ }
 {
     for k in 0..new {
         stretch[write + k] = Entry {
@@ -84,12 +84,28 @@ fn put(stretch: &mut [Entry], write: usize, e: u64, tick: u64, new: usize, olds:
             exponent: e,
         };
     }
-    for j in 0..olds.len() {
-        stretch[write + new + j] = Entry {
-            stamp: olds[j],
+}
+
+/// Writes buckets of the stamps `olds` and exponent `e` from `write` on.
+fn put_olds(stretch: &mut [Entry], write: usize, e: u64, olds: &[u64])
+    requires room { ⌜ write + length (now olds) ≤ length (now stretch) ⌝ }
+    ensures laid { λ _. ⌜ now (stretch .exit) ≡ laid write (map (ofSize e) (now (olds .entry))) (now (stretch .entry)) ⌝ }
+{
+    for k in 0..olds.len() {
+        stretch[write + k] = Entry {
+            stamp: olds[k],
             exponent: e,
         };
     }
+}
+
+/// Writes `new` buckets of stamp `tick` and then those of the stamps `olds`, all of exponent `e`, from `write` on.
+fn put(stretch: &mut [Entry], write: usize, e: u64, tick: u64, new: usize, olds: &[u64])
+    requires room { ⌜ write + (new + length (now olds)) ≤ length (now stretch) ⌝ }
+    ensures laid { λ _. ⌜ now (stretch .exit) ≡ laid write (map (ofSize e) (replicate new tick ++ now (olds .entry))) (now (stretch .entry)) ⌝ }
+{
+    put_new(stretch, write, e, tick, new);
+    put_olds(stretch, write + new, e, olds);
 }
 
 /// How many of `n` buckets of a level stay there; the rest goes up in pairs.
@@ -158,7 +174,7 @@ pub(crate) fn insert(
     requires places { ⌜ kept ≤ buckets ⌝ ∗ ⌜ buckets ≤ length (now stretch) ⌝ ∗ ⌜ (settings .now .half + 1) * (settings .now .top + 1) ≤ length (now stretch) ⌝ }
     requires past { ⌜ every isZero (drop buckets (now stretch)) ≡ true ⌝ }
     requires form { ⌜ formed (settings .now .half) tick (take kept (now stretch)) ≡ true ⌝ }
-    requires room { ⌜ arrivals ≤ 1024 ⌝ ∗ ⌜ total (take kept (now stretch)) + arrivals ≤ most (settings .now .half) (settings .now .top) ⌝ }
+    requires room { ⌜ arrivals ≤ 1024 ⌝ ∗ ⌜ total (take kept (now stretch)) + arrivals ≤ closingFigure (settings .now .half) (settings .now .top) ⌝ }
     ensures after { λ _. ⌜ now (stretch .exit) ≡ padded (length (now (stretch .entry))) (insertions (settings .entry .now .half) arrivals tick (take kept (now (stretch .entry)))) ⌝ }
     ensures many { λ r. ⌜ r ≡ length (insertions (settings .entry .now .half) arrivals tick (take kept (now (stretch .entry)))) ⌝ }
 {

@@ -1,7 +1,7 @@
 //! Making settings, and what they ask of a stretch.
 ghost use mathlib.Core.Path.{_≡_};
-ghost use Rattle.theory.specs.Buckets.{most};
-ghost use Rattle.histogram.specs.Settings.{Made, room};
+ghost use Rattle.theory.specs.Buckets.{closingFigure};
+ghost use Rattle.histogram.specs.Settings.{Made, mostBuckets, room};
 use super::exponent::exponent_for;
 use super::settings::HIGHEST_CAP;
 use super::settings::LONGEST_WINDOW;
@@ -43,16 +43,23 @@ impl Settings {
         })
     }
 
+    /// The most buckets that there can be: l + 1 of each exponent up to r.
+    pub fn most_buckets(&self) -> usize
+        ensures value { λ n. ⌜ n ≡ mostBuckets (self .entry .now .half) (self .entry .now .top) ⌝ }
+    {
+        (self.half as usize + 1) * (self.top as usize + 1)
+    }
+
     /// How many entries a stretch must have: (l + 1) × (r + 1) + 1.
     pub fn room(&self) -> usize
         ensures value { λ n. ⌜ n ≡ room (self .entry .now .half) (self .entry .now .top) ⌝ }
     {
-        (self.half as usize + 1) * (self.top as usize + 1) + 1
+        self.most_buckets() + 1
     }
 
     /// The most that the buckets can stand for: (l + 1) × (2^(r + 1) − 1).
-    pub fn most(&self) -> u64
-        ensures value { λ n. ⌜ n ≡ most (self .entry .now .half) (self .entry .now .top) ⌝ }
+    pub fn closing_figure(&self) -> u64
+        ensures value { λ n. ⌜ n ≡ closingFigure (self .entry .now .half) (self .entry .now .top) ⌝ }
     {
         (self.half + 1) * ((1 << (self.top + 1)) - 1)
     }

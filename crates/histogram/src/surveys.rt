@@ -86,7 +86,7 @@ pub fn examine(
 ) -> Option<Survey>
     ensures value { λ r. ⌜ r ≡ surveyed (settings .entry .now) own buckets window at (now (stretch .entry)) ⌝ }
 {
-    let most = settings.room() - 1;
+    let most = settings.most_buckets();
     if stretch.len() < most || buckets > most || !all_zero(&stretch[buckets..]) {
         return None;
     }

@@ -38,7 +38,7 @@ fn run(rt: &LibcRuntime, k: u64, window: u64, cap: u64, weight: u64) -> io::Resu
     let start = std::time::Instant::now(rt)?;
     let (standing, refused) = enter_lines(&mut stretch, &settings, weight);
     let spent = start.elapsed(rt)?.as_nanos();
-    let each = spent / 100_000;
+    let each = spent / u128::from(LINES);
     eprintln!(rt, "k {k}, weight {weight}: {each} ns a line")?;
     println!(
         rt,

@@ -22,7 +22,7 @@ use Rattle.theory.proofs.SoundLaws.{formed-says, sound-from, sound-says}
 use Rattle.theory.proofs.TopLaws.{count-bound, length-flat, top-flat, top-row-from}
 use Rattle.theory.proofs.Views.{Below, Formed, Stands, kept}
 use Rattle.theory.specs.Arrivals.{Falling, Keeps, Largest, atTick, truth}
-use Rattle.theory.specs.Buckets.{insertions, low, most, oldest, size, stamps, top, topFrom, total, within}
+use Rattle.theory.specs.Buckets.{insertions, low, closingFigure, oldest, size, stamps, top, topFrom, total, within}
 use Rattle.theory.specs.Levels.{Canonical, flat, pushAll, row}
 use Rattle.theory.specs.Sound.{formed, soundBuckets}
 use Rattle.theory.specs.Theorems.{Few, Fits}
@@ -124,7 +124,7 @@ batch-of l t v bs one h =
     }
 
 -- few levels: few buckets, and small exponents
-levels-room : (l r : ℕ) (levels : List (List ℕ)) → Canonical l levels → total (flat 0 levels) ≤ most l r
+levels-room : (l r : ℕ) (levels : List (List ℕ)) → Canonical l levels → total (flat 0 levels) ≤ closingFigure l r
     → (length (flat 0 levels) ≤ (l + 1) * (r + 1)) × All (λ b. b .exponent ≤ r) (flat 0 levels)
 levels-room l r levels c h =
     let few : length levels ≤ r + 1 = few-levels l r levels c h in
@@ -147,7 +147,7 @@ dropping-sound l r N early t bs le h =
     })
 
 pub insertion-sound : (l r N own t v : ℕ) (bs : List Entry) → 1 ≤ l → 0 < N → own ≤ t → soundBuckets l r N own bs ≡ true
-    → total (within N t bs) + v ≤ most l r
+    → total (within N t bs) + v ≤ closingFigure l r
     → (soundBuckets l r N t (insertions l v t (within N t bs)) ≡ true) × (length (insertions l v t (within N t bs)) ≤ (l + 1) * (r + 1))
 insertion-sound l r N early t v bs one pos le h fits =
     let s = sound-says l r N early bs h in
@@ -209,13 +209,13 @@ sizes-of l N t us x ss rest c f s e =
     }
 
 levels-fit : (l r N t : ℕ) (us : List ℕ) (levels : List (List ℕ)) → Canonical l levels → Falling us → Stands N t us 0 (flat 0 levels)
-    → within N t (flat 0 levels) ≡ flat 0 levels → truth N t us ≤ l * (2 ^ (r + 1) - 1) → total (flat 0 levels) ≤ most l r
+    → within N t (flat 0 levels) ≡ flat 0 levels → truth N t us ≤ l * (2 ^ (r + 1) - 1) → total (flat 0 levels) ≤ closingFigure l r
 levels-fit l r N t us [] c f s e h = omega arith
 levels-fit l r N t us ([] ∷ rest) c f s e h = absurd (omega arith)
 levels-fit l r N t us ((x ∷ ss) ∷ rest) c f s e h = go (total (flat 0 ((x ∷ ss) ∷ rest))) (length rest)
     (sizes-of l N t us x ss rest c f s e) (cases-lt (length rest) (r + 1))
   where
-    go : (T K : ℕ) → Sizes l K T (truth N t us) → (K < r + 1) ⊎ (r + 1 ≤ K) → T ≤ most l r
+    go : (T K : ℕ) → Sizes l K T (truth N t us) → (K < r + 1) ⊎ (r + 1 ≤ K) → T ≤ closingFigure l r
     go T K z (inl lt) =
         let k : 0 + suc K ≤ r + 1 = omega arith in
         let p : 2 ^ (0 + suc K) ≤ 2 ^ (r + 1) = pow-mono k in
@@ -241,7 +241,7 @@ never-full l r m N early t v us bs one pos le largest keeps few =
     let b = batch-of l t v (within N t bs) one (kept .formed) in
     let live = inserted-live l N t v (within N t bs) one pos (facts .0) (facts .1) (within-live N t bs) in
     let stands = good-from l N t (replicate v t ++ us) (insertions l v t (within N t bs)) after .1 in
-    let fit : total (flat 0 (b .levels)) ≤ most l r =
+    let fit : total (flat 0 (b .levels)) ≤ closingFigure l r =
     levels-fit l r N t (replicate v t ++ us) (b .levels) (b .canonical) (after .falling) (subst (Stands N t (replicate v t ++ us) 0) (b .same) stands)
     (within-all N t (flat 0 (b .levels)) (subst (All (λ b. t < b .stamp + N)) (b .same) live))
     (omega (arith, few, not-largest l m r largest (cases-lt (l * (2 ^ (r + 1) - 1)) m))) in

@@ -74,5 +74,5 @@ abbrev pub top : List Entry → ℕ
 top bs = topFrom 0 bs
 
 -- the most that l + 1 buckets of each exponent up to r stand for: the closing figure
-abbrev pub most : (l r : ℕ) → ℕ
-most l r = (l + 1) * (2 ^ (r + 1) - 1)
+abbrev pub closingFigure : (l r : ℕ) → ℕ
+closingFigure l r = (l + 1) * (2 ^ (r + 1) - 1)

@@ -6,7 +6,7 @@ use Prim.Native.Nat.{ℕ, _+_, _-_, _*_, _^_, _≤_, _<_}
 use lib.ListN.{length, take, drop, replicate}
 use Rattle.std.specs.shelf.Lists.{All}
 use Rattle.theory.specs.Arrivals.{Keeps, truth, atTick, Brackets, Largest}
-use Rattle.theory.specs.Buckets.{total, insert, insertions, within, low, high, top, most}
+use Rattle.theory.specs.Buckets.{total, insert, insertions, within, low, high, top, closingFigure}
 use Rattle.theory.specs.Levels.{flat, pushAll, newer, staying, Canonical}
 use Rattle.theory.specs.Sound.{formed, soundBuckets}
 use Rattle.theory.specs.declared.entries.Entry.{Entry}
@@ -52,14 +52,14 @@ DroppingSound = (l r N own t : ℕ) (bs : List Entry) → own ≤ t → soundBuc
 -- sound buckets to which v arrivals come at tick t are sound again, if the closing figure is not passed
 abbrev pub InsertionSound : Type 0
 InsertionSound = (l r N own t v : ℕ) (bs : List Entry) → 1 ≤ l → 0 < N → own ≤ t → soundBuckets l r N own bs ≡ true
-    → total (within N t bs) + v ≤ most l r
+    → total (within N t bs) + v ≤ closingFigure l r
     → (soundBuckets l r N t (insertions l v t (within N t bs)) ≡ true)
     × (length (insertions l v t (within N t bs)) ≤ (l + 1) * (r + 1))
 
 -- v arrivals at tick t, those of the last N ticks then being at most m, with r the largest exponent for m: the closing
 -- figure is not passed, no exponent is above r, and the buckets leave one entry of the room (l + 1) × (r + 1) + 1 free
 pub record Fits (l r N t v : ℕ) (bs : List Entry) : Type 0 where
-  pub closing : total (within N t bs) + v ≤ most l r
+  pub closing : total (within N t bs) + v ≤ closingFigure l r
   pub exponents : top (insertions l v t (within N t bs)) ≤ r
   pub room : length (insertions l v t (within N t bs)) ≤ (l + 1) * (r + 1)
 

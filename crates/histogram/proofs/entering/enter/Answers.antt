@@ -16,7 +16,7 @@ use Rattle.std.specs.declared.option.Option.the-variants.{Some}
 use Rattle.std.specs.declared.result.Result.{Result}
 use Rattle.std.specs.declared.result.Result.the-variants.{Ok}
 use Rattle.theory.proofs.Views.{kept}
-use Rattle.theory.specs.Buckets.{insertions, most, top, total}
+use Rattle.theory.specs.Buckets.{insertions, closingFigure, top, total}
 use Rattle.theory.specs.Sound.{formed}
 use denote.Ref.{now}
 use Rattle.histogram.proofs.entering.enter.Needs as need
@@ -32,7 +32,7 @@ insert-buckets-requires c κs =
     let n : c .in-Some .kept .buckets ≡ length (keptAt s was t xs) = ap (λ (x : Survey). x .buckets) (says .1) in
     let front : take (c .in-Some .kept .buckets) xs ≡ keptAt s was t xs = ap (λ (k : ℕ). take k xs) n ∙ kept-is s was t (c .args .arrivals)
     xs (says .0) later in
-    let fits = leb-true (c .in-Some .kept .sizes + c .args .arrivals) (most (s .half) (s .top)) (sym (c .if-not-fits .ensures tt .value)) in
+    let fits = leb-true (c .in-Some .kept .sizes + c .args .arrivals) (closingFigure (s .half) (s .top)) (sym (c .if-not-fits .ensures tt .value)) in
     let places = enter-places s was t (c .args .arrivals) xs (says .0) later in
     record {
       places = (omega (arith, n, kept-inside s was t (c .args .arrivals) xs (says .0) later), (places .0, places .1));
@@ -52,11 +52,11 @@ returns c =
     let later : was .tick ≤ t = c .if-tick-was .left in
     let n : c .in-Some .kept .buckets ≡ length (keptAt s was t xs) = ap (λ (x : Survey). x .buckets) (says .1) in
     let front : take (c .in-Some .kept .buckets) xs ≡ keptAt s was t xs = ap (λ (k : ℕ). take k xs) n ∙ kept-is s was t v xs (says .0) later in
-    let fits : total (keptAt s was t xs) + v ≤ most (s .half) (s .top) =
+    let fits : total (keptAt s was t xs) + v ≤ closingFigure (s .half) (s .top) =
     omega (
       arith,
       ap (λ (x : Survey). x .sizes) (says .1),
-      leb-true (c .in-Some .kept .sizes + v) (most (s .half) (s .top))
+      leb-true (c .in-Some .kept .sizes + v) (closingFigure (s .half) (s .top))
           (sym (c .if-not-fits .ensures tt .value)),
     ) in
     let same : insertions (s .half) v t (take (c .in-Some .kept .buckets) xs) ≡ bucketsAfter s was t v xs = ap (insertions (s .half) v t) front in

@@ -27,9 +27,9 @@ returns-then-stretch-most c =
     record {
       value = surveyed-none s (c .args .own) b (c .args .window) (c .args .at) xs (λ f.
           elim (c .then-stretch-most .came) [
-            | then-stretch-most·by·then-stretch-most w ↦ omega (arith, w .if-stretch-most .taken, f .roomy, c .room-most .ensures .value)
+            | then-stretch-most·by·then-stretch-most w ↦ omega (arith, w .if-stretch-most .taken, f .roomy, c .most-buckets-most .ensures .value)
             | then-stretch-most·by·else-stretch-most·then-buckets-most w ↦ omega
-                (arith, w .if-buckets-most .taken, f .few, c .room-most .ensures .value)
+                (arith, w .if-buckets-most .taken, f .few, c .most-buckets-most .ensures .value)
             | then-stretch-most·by·else-stretch-most·else-buckets-most·then-not-all-zero w ↦
                 false≢true (sym (w .if-not-all-zero .taken) ∙ w .all-zero .ensures .value ∙ ap (every isZero) (take-rest xs b) ∙ f .past)
           ]);
@@ -83,8 +83,8 @@ returns c =
       value = ap {B = Option Survey} (λ (v : Survey). Some v) (c .windowed .ensures .value ∙ ap
           (λ (n : ℕ). told (within (c .args .window) (c .args .at) (take n xs))) z)
           ∙ surveyed-some s (c .args .own) b (c .args .window) (c .args .at) xs (record {
-            roomy = omega (arith, c .room-most .ensures .value, c .if-stretch-most .left);
-            few = omega (arith, c .room-most .ensures .value, c .if-buckets-most .left);
+            roomy = omega (arith, c .most-buckets-most .ensures .value, c .if-stretch-most .left);
+            few = omega (arith, c .most-buckets-most .ensures .value, c .if-buckets-most .left);
             past = ap (every isZero) (sym (take-rest xs b)) ∙ sym (c .if-not-all-zero .ensures tt .value);
             buckets = tail-buckets (s .half) (s .top) (s .window) (c .args .own) (take b xs) tail live;
           });
