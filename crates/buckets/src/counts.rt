@@ -7,6 +7,7 @@ use crate::board::MOST_ENTRIES;
 use histogram::Entry;
 use histogram::HIGHEST_CAP;
 use histogram::LONGEST_WINDOW;
+use histogram::NO_BUCKET;
 use histogram::Settings;
 use histogram::Standing;
 use histogram::enter;
@@ -28,10 +29,7 @@ impl Board {
                     buckets: 0,
                 },
                 arrivals: 0,
-                entries: [Entry {
-                    stamp: 0,
-                    exponent: 0,
-                }; MOST_ENTRIES],
+                entries: [NO_BUCKET; MOST_ENTRIES],
             }),
             Err(_) => None,
         }

@@ -29,3 +29,4 @@ pub use surveys::Figures;
 pub use surveys::Survey;
 pub use surveys::examine;
 pub use theory::Entry;
+pub use theory::NO_BUCKET;

@@ -5,6 +5,7 @@ ghost use lib.ListN.{length, take, drop};
 ghost use Rattle.theory.specs.Sound.{zeros};
 ghost use Rattle.histogram.specs.Raising.{laid};
 use theory::Entry;
+use theory::NO_BUCKET;
 
 /// Moves the entries from `i` to `b` to `o`.
 pub(crate) fn move_to(stretch: &mut [Entry], i: usize, b: usize, o: usize)
@@ -20,10 +21,7 @@ pub(crate) fn zero(stretch: &mut [Entry], from: usize, to: usize)
     ensures zeroed { λ _. ⌜ now (stretch .exit) ≡ laid from (zeros (to - from)) (now (stretch .entry)) ⌝ }
 {
     for k in from..to {
-        stretch[k] = Entry {
-            stamp: 0,
-            exponent: 0,
-        };
+        stretch[k] = NO_BUCKET;
     }
 }
 

@@ -2,6 +2,7 @@
 //!
 //! What was done goes to standard output, the times to standard error, so that the output is the same on every machine.
 use histogram::Entry;
+use histogram::NO_BUCKET;
 use histogram::Settings;
 use histogram::Standing;
 use histogram::enter;
@@ -31,10 +32,7 @@ fn run(rt: &LibcRuntime, k: u64, window: u64, cap: u64, weight: u64) -> io::Resu
     let Ok(settings) = Settings::new(k, window, cap) else {
         return println!(rt, "no such settings");
     };
-    let mut stretch = [Entry {
-        stamp: 0,
-        exponent: 0,
-    }; 200];
+    let mut stretch = [NO_BUCKET; 200];
     let start = std::time::Instant::now(rt)?;
     let (standing, refused) = enter_lines(&mut stretch, &settings, weight);
     let spent = start.elapsed(rt)?.as_nanos();

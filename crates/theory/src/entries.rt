@@ -7,3 +7,9 @@ pub struct Entry {
     pub stamp: u64,
     pub exponent: u64,
 }
+
+/// What an entry holds where no bucket is.
+pub const NO_BUCKET: Entry = Entry {
+    stamp: 0,
+    exponent: 0,
+};

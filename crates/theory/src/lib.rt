@@ -7,6 +7,7 @@ mod entries;
 mod theorems;
 
 pub use entries::Entry;
+pub use entries::NO_BUCKET;
 pub use theorems::arrivals_in_window;
 pub use theorems::batch_is_repeated;
 pub use theorems::brackets_truth;
