@@ -17,8 +17,8 @@ use Rattle.histogram.proofs.StretchLaws.{stretch-from, stretch-says, tail-bucke
 use Rattle.histogram.proofs.TailLaws.{tail-end}
 use Rattle.histogram.specs.Entering.{bucketsAfter, changed, keptAt, padded, refusal, standing, stretchAfter, unless, weightBefore}
 use Rattle.histogram.specs.declared.entering.EnterFault.{EnterFault}
-use Rattle.histogram.specs.declared.entering.Standing.{Standing}
 use Rattle.histogram.specs.declared.settings.Settings.{Settings}
+use Rattle.histogram.specs.declared.track.Standing.{Standing}
 use Rattle.std.proofs.shelf.Elements.{all-weaker}
 use Rattle.std.proofs.shelf.Lists.{take-at}
 use Rattle.std.proofs.shelf.Tests.{cases-lt, cond-true, lt-ltb}
@@ -30,7 +30,7 @@ use Rattle.std.specs.shelf.Lists.{All}
 use Rattle.theory.proofs.FullLaws.{batch-of, within-all}
 use Rattle.theory.proofs.SoundLaws.{sound-says}
 use Rattle.theory.proofs.Views.{cap}
-use Rattle.theory.specs.Buckets.{insertions, closingFigure, top, total}
+use Rattle.theory.specs.Buckets.{closingFigure, insertions, top, total}
 use Rattle.theory.specs.Sound.{every, formed, isZero, sound, zeros}
 use Rattle.theory.specs.declared.entries.Entry.{Entry}
 

@@ -7,10 +7,10 @@ use Prim.Native.Nat.{_*_, _+_, _-_, _≤_, suc, zero, ℕ}
 use lib.Dec.{ltb}
 use lib.ListN.{drop, length, replicate, take}
 use Rattle.histogram.proofs.StretchLaws.{StretchFacts, stretch-from, stretch-says}
-use Rattle.histogram.specs.Entering.{bucketsAfter, padded, refusal, keptAt, weightBefore}
+use Rattle.histogram.specs.Entering.{bucketsAfter, keptAt, padded, refusal, weightBefore}
 use Rattle.histogram.specs.declared.entering.EnterFault.the-variants.{Early, Full, OverCap, Unsound}
-use Rattle.histogram.specs.declared.entering.Standing.{Standing}
 use Rattle.histogram.specs.declared.settings.Settings.{Settings}
+use Rattle.histogram.specs.declared.track.Standing.{Standing}
 use Rattle.std.proofs.shelf.Lists.{drop-at, length-append, length-replicate, length-take-le, take-at, take-take}
 use Rattle.std.proofs.shelf.Tests.{cond-both, cond-false, cond-true, le-ltb, ltb-false}
 use Rattle.std.specs.declared.option.Option.the-variants.{None, Some}

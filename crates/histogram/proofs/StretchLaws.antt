@@ -1,7 +1,7 @@
 -- A sound stretch as a test and as facts.
 use mathlib.Core.Bool.{Bool, _&&_, false, true}
 use mathlib.Core.List.{List, [], _∷_}
-use mathlib.Core.Path.{_≡_, refl, subst, sym}
+use mathlib.Core.Path.{_∙_, _≡_, ap, refl, subst, sym}
 use native.Mathlib.Omega.{arith}
 use Prim.Native.Nat.{_*_, _+_, _<_, _≤_, suc, ℕ}
 use lib.Dec.{leb}
@@ -10,7 +10,9 @@ use Rattle.histogram.proofs.SurveyLaws.{all-lives, lives-all}
 use Rattle.histogram.specs.Surveys.{Bracketed, figures, lives, surveyed, told}
 use Rattle.histogram.specs.Tails.{Tail}
 use Rattle.histogram.specs.declared.settings.Settings.{Settings}
+use Rattle.histogram.specs.declared.surveys.Figures.{Figures}
 use Rattle.histogram.specs.declared.surveys.Survey.{Survey}
+use Rattle.histogram.specs.declared.track.Standing.{Standing}
 use Rattle.std.proofs.shelf.Elements.{all-weaker}
 use Rattle.std.proofs.shelf.Tests.{and-from, and-parts, cond-both, cond-false, cond-true, le-leb, leb-true}
 use Rattle.std.specs.declared.option.Option.{Option}
@@ -117,34 +119,45 @@ not-sound l r N own b xs h = not-yes (sound l r N own b xs) (λ e. h (stretch-sa
     not-yes false f = refl
 
 -- what a survey is, by whether the stretch is sound
-module _ (s : Settings) (own b W a : ℕ) (xs : List Entry) where
+module _ (s : Settings) (track : Standing) (W a : ℕ) (xs : List Entry) where
   abbrev pub Facts : Type 0
-  Facts = StretchFacts (s .half) (s .top) (s .window) own b xs
+  Facts = StretchFacts (s .half) (s .top) (s .window) (track .tick) (track .buckets) xs
 
-  pub surveyed-none : (Facts → ⊥) → None ≡ surveyed s own b W a xs
+  pub surveyed-none : (Facts → ⊥) → None ≡ surveyed s track W a xs
   surveyed-none h =
-      sym (cond-false (sound (s .half) (s .top) (s .window) own b xs) (Some (told (within W a (take b xs)))) None
-      (not-sound (s .half) (s .top) (s .window) own b xs h))
+      sym (cond-false (sound (s .half) (s .top) (s .window) (track .tick) (track .buckets) xs)
+      (Some (told (within W a (take (track .buckets) xs)))) None
+      (not-sound (s .half) (s .top) (s .window) (track .tick) (track .buckets) xs h))
 
-  pub surveyed-some : Facts → Some (told (within W a (take b xs))) ≡ surveyed s own b W a xs
+  pub surveyed-some : Facts → Some (told (within W a (take (track .buckets) xs))) ≡ surveyed s track W a xs
   surveyed-some f =
-      sym (cond-true (sound (s .half) (s .top) (s .window) own b xs) (Some (told (within W a (take b xs)))) None
-      (stretch-from (s .half) (s .top) (s .window) own b xs f))
+      sym (cond-true (sound (s .half) (s .top) (s .window) (track .tick) (track .buckets) xs)
+      (Some (told (within W a (take (track .buckets) xs)))) None
+      (stretch-from (s .half) (s .top) (s .window) (track .tick) (track .buckets) xs f))
 
   -- a survey tells that the stretch is sound
   abbrev pub Says : Option Survey → Type 0
-  Says (Some v) = (sound (s .half) (s .top) (s .window) own b xs ≡ true) × (v ≡ told (within W a (take b xs)))
+  Says (Some v) = (sound (s .half) (s .top) (s .window) (track .tick) (track .buckets) xs ≡ true) × (v ≡ told (within W a (take (track .buckets) xs)))
   Says None = Unit {0}
 
-  pub surveyed-says : (o : Option Survey) → o ≡ surveyed s own b W a xs → Says o
+  pub surveyed-says : (o : Option Survey) → o ≡ surveyed s track W a xs → Says o
   surveyed-says o e =
-      subst Says (sym e) (cond-both (sound (s .half) (s .top) (s .window) own b xs) (Some (told (within W a (take b xs)))) None Says
+      subst Says (sym e) (cond-both (sound (s .half) (s .top) (s .window) (track .tick) (track .buckets) xs)
+      (Some (told (within W a (take (track .buckets) xs)))) None Says
       (λ t. (t, refl)) (λ _. tt))
 
-  pub figures-some : sound (s .half) (s .top) (s .window) own b xs ≡ true
-      → Some (record { low = low (within W a (take b xs)); high = high (within W a (take b xs)) }) ≡ figures s own b W a xs
-  figures-some t = sym (cond-true (sound (s .half) (s .top) (s .window) own b xs)
-      (Some (record { low = low (within W a (take b xs)); high = high (within W a (take b xs)) })) None t)
+  -- low and high of the buckets in the window
+  abbrev pub figuresOf : Figures
+  figuresOf = record { low = low (within W a (take (track .buckets) xs)); high = high (within W a (take (track .buckets) xs)) }
 
-  pub figures-bracket : Bracketed s own b W a xs (Some (record { low = low (within W a (take b xs)); high = high (within W a (take b xs)) }))
-  figures-bracket us k wn ta = brackets-truth (s .half) (s .window) own us (take b xs) W a k wn ta
+  pub figures-some : sound (s .half) (s .top) (s .window) (track .tick) (track .buckets) xs ≡ true → Some figuresOf ≡ figures s track W a xs
+  figures-some t = sym (cond-true (sound (s .half) (s .top) (s .window) (track .tick) (track .buckets) xs) (Some figuresOf) None t)
+
+  -- figures that are low and high of those buckets are the stated ones, and bracket the truth
+  pub figures-are : (f : Figures) → sound (s .half) (s .top) (s .window) (track .tick) (track .buckets) xs ≡ true → f ≡ figuresOf
+      → (Some f ≡ figures s track W a xs) × Bracketed s track W a xs (Some f)
+  figures-are f t e = (
+    ap {B = Option Figures} (λ (g : Figures). Some g) e ∙ figures-some t,
+    subst (λ (g : Figures). Bracketed s track W a xs (Some g)) (sym e)
+        (λ us k wn ta. brackets-truth (s .half) (s .window) (track .tick) us (take (track .buckets) xs) W a k wn ta),
+  )

@@ -15,8 +15,8 @@ use Rattle.theory.specs.Sound.{zeros, sound}
 use Rattle.theory.specs.declared.entries.Entry.{Entry}
 use Rattle.histogram.specs.declared.entering.EnterFault.{EnterFault}
 use Rattle.histogram.specs.declared.entering.EnterFault.the-variants.{Early, Unsound, OverCap, Full}
-use Rattle.histogram.specs.declared.entering.Standing.{Standing}
 use Rattle.histogram.specs.declared.settings.Settings.{Settings}
+use Rattle.histogram.specs.declared.track.Standing.{Standing}
 
 -- a stretch of p entries that holds the buckets bs, and zero entries after them
 abbrev pub padded : ℕ → List Entry → List Entry

@@ -34,9 +34,9 @@ GoodWindow N = (1 ≤ N) × (N ≤ 1048576)
 abbrev pub GoodCap : ℕ → Type 0
 GoodCap R = (1 ≤ R) × (R ≤ 1024)
 
--- the settings of k, N and R, or the first cause why there are none
+-- the settings of k, N and R, with the largest exponent for N × R arrivals; or the first cause why there are none
 abbrev pub Made : (k N R : ℕ) → Result Settings SettingsFault → Type 0
-Made k N R (Ok s) = (k ≡ 2 * s .half) × (N ≡ s .window) × (R ≡ s .cap)
+Made k N R (Ok s) = (k ≡ 2 * s .half) × (N ≡ s .window) × (R ≡ s .cap) × Largest (s .half) (N * R) (s .top)
 Made k N R (Err K) = GoodK k → ⊥
 Made k N R (Err Window) = GoodK k × (GoodWindow N → ⊥)
 Made k N R (Err Cap) = GoodK k × GoodWindow N × (GoodCap R → ⊥)

@@ -13,6 +13,7 @@ use Rattle.theory.specs.declared.entries.Entry.{Entry}
 use Rattle.histogram.specs.declared.settings.Settings.{Settings}
 use Rattle.histogram.specs.declared.surveys.Figures.{Figures}
 use Rattle.histogram.specs.declared.surveys.Survey.{Survey}
+use Rattle.histogram.specs.declared.track.Standing.{Standing}
 
 -- whether the oldest bucket, if there is one, has not expired
 abbrev pub lives : (N own : ℕ) → List Entry → Bool
@@ -24,20 +25,20 @@ lives N own (b ∷ (c ∷ bs)) = lives N own (c ∷ bs)
 abbrev pub told : List Entry → Survey
 told bs = record { buckets = length bs; sizes = total bs; oldest = oldest 0 bs }
 
--- a survey of the window W at a, of a track with own tick and b buckets; nothing where its stretch is not sound
-abbrev pub surveyed : Settings → (own b W a : ℕ) → List Entry → Option Survey
-surveyed s own b W a stretch =
-    cond (sound (s .half) (s .top) (s .window) own b stretch) (Some (told (within W a (take b stretch)))) None
+-- a survey of a track in the window W at a; nothing where its stretch is not sound
+abbrev pub surveyed : Settings → Standing → (W a : ℕ) → List Entry → Option Survey
+surveyed s track W a stretch =
+    cond (sound (s .half) (s .top) (s .window) (track .tick) (track .buckets) stretch) (Some (told (within W a (take (track .buckets) stretch)))) None
 
 -- low and high of the window W at a
-abbrev pub figures : Settings → (own b W a : ℕ) → List Entry → Option Figures
-figures s own b W a stretch =
-    cond (sound (s .half) (s .top) (s .window) own b stretch)
-    (Some (record { low = low (within W a (take b stretch)); high = high (within W a (take b stretch)) })) None
+abbrev pub figures : Settings → Standing → (W a : ℕ) → List Entry → Option Figures
+figures s track W a stretch =
+    cond (sound (s .half) (s .top) (s .window) (track .tick) (track .buckets) stretch)
+    (Some (record { low = low (within W a (take (track .buckets) stretch)); high = high (within W a (take (track .buckets) stretch)) })) None
 
 -- whatever arrivals the buckets are a histogram of, low and high bracket their true count
-abbrev pub Bracketed : Settings → (own b W a : ℕ) → List Entry → Option Figures → Type 0
-Bracketed s own b W a stretch None = Unit {0}
-Bracketed s own b W a stretch (Some f) =
-    (us : List ℕ) → Keeps (s .half) (s .window) own us (take b stretch) → W ≤ s .window → own ≤ a
+abbrev pub Bracketed : Settings → Standing → (W a : ℕ) → List Entry → Option Figures → Type 0
+Bracketed s track W a stretch None = Unit {0}
+Bracketed s track W a stretch (Some f) =
+    (us : List ℕ) → Keeps (s .half) (s .window) (track .tick) us (take (track .buckets) stretch) → W ≤ s .window → track .tick ≤ a
     → Brackets (s .half) (truth W a us) (f .low) (f .high)

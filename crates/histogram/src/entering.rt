@@ -7,16 +7,8 @@ ghost use Rattle.histogram.specs.Entering.{standing, stretchAfter, weightBefor
 use super::inserting::insert;
 use super::settings::Settings;
 use super::surveys::examine;
+use super::track::Standing;
 use theory::Entry;
-
-/// What changes of a track when arrivals are entered: its own tick, the weight accepted at that tick, and its number of
-/// buckets.
-#[derive(Clone, Copy)]
-pub struct Standing {
-    pub tick: u64,
-    pub weight: u64,
-    pub buckets: usize,
-}
 
 /// Why arrivals are not entered. The first cause that holds is told, in this order.
 #[derive(Clone, Copy, PartialEq, Debug)]
@@ -66,14 +58,7 @@ pub fn enter(
     if tick < was.tick {
         return Err(EnterFault::Early);
     }
-    let Some(kept) = examine(
-        stretch,
-        settings,
-        was.tick,
-        was.buckets,
-        settings.window,
-        tick,
-    ) else {
+    let Some(kept) = examine(stretch, settings, was, settings.window, tick) else {
         return Err(EnterFault::Unsound);
     };
     let weight = was.weight_at(tick);

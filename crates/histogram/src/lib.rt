@@ -12,11 +12,11 @@ mod moves;
 mod opening;
 mod settings;
 mod surveys;
+mod track;
 
 pub use counting::count;
 pub use counting::is_sound;
 pub use entering::EnterFault;
-pub use entering::Standing;
 pub use entering::enter;
 pub use exponent::largest_exponent;
 pub use moves::clear;
@@ -30,3 +30,4 @@ pub use surveys::Survey;
 pub use surveys::examine;
 pub use theory::Entry;
 pub use theory::NO_BUCKET;
+pub use track::Standing;

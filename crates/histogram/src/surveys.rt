@@ -10,6 +10,7 @@ ghost use Rattle.histogram.specs.Surveys.{lives, told, surveyed};
 use super::levels::all_zero;
 use super::levels::formed_sizes;
 use super::settings::Settings;
+use super::track::Standing;
 use theory::Entry;
 
 /// Of some buckets: how many there are, the sum of their sizes, and the size of the oldest, 0 without any.
@@ -74,25 +75,24 @@ fn windowed(buckets: &[Entry], sizes: u64, window: u64, at: u64) -> Survey
     }
 }
 
-/// Examines the buckets in the window `window` at `at`, of a track with `buckets` buckets and own tick `own`; nothing
-/// where the stretch is not sound.
+/// Examines the buckets in the window `window` at `at`; nothing where the stretch is not sound.
 pub fn examine(
     stretch: &[Entry],
     settings: &Settings,
-    own: u64,
-    buckets: usize,
+    track: Standing,
     window: u64,
     at: u64,
 ) -> Option<Survey>
-    ensures value { λ r. ⌜ r ≡ surveyed (settings .entry .now) own buckets window at (now (stretch .entry)) ⌝ }
+    ensures value { λ r. ⌜ r ≡ surveyed (settings .entry .now) track window at (now (stretch .entry)) ⌝ }
 {
+    let buckets = track.buckets;
     let most = settings.most_buckets();
     if stretch.len() < most || buckets > most || !all_zero(&stretch[buckets..]) {
         return None;
     }
     let held = &stretch[0..buckets];
-    let sizes = formed_sizes(held, settings, own)?;
-    if !oldest_lives(held, settings.window, own) {
+    let sizes = formed_sizes(held, settings, track.tick)?;
+    if !oldest_lives(held, settings.window, track.tick) {
         return None;
     }
     Some(windowed(held, sizes, window, at))

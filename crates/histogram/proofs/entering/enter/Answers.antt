@@ -4,11 +4,11 @@ use Prim.Native.Nat.{_+_, _≤_, ℕ}
 use lib.ListN.{length, take}
 use Rattle.histogram.proofs.EnterLaws.{enter-past, enter-places, entered-keeps, entered-sound, kept-formed, kept-inside, kept-is, not-refused}
 use Rattle.histogram.proofs.StretchLaws.{surveyed-says}
-use Rattle.histogram.specs.Entering.{bucketsAfter, changed, padded, keptAt, unless, weightBefore}
+use Rattle.histogram.specs.Entering.{bucketsAfter, changed, keptAt, padded, unless, weightBefore}
 use Rattle.histogram.specs.Settings.{room}
 use Rattle.histogram.specs.declared.entering.EnterFault.{EnterFault}
-use Rattle.histogram.specs.declared.entering.Standing.{Standing}
 use Rattle.histogram.specs.declared.surveys.Survey.{Survey}
+use Rattle.histogram.specs.declared.track.Standing.{Standing}
 use Rattle.std.proofs.shelf.Tests.{leb-true}
 use Rattle.std.specs.Reads.{value}
 use Rattle.std.specs.declared.option.Option.{Option}
@@ -16,7 +16,7 @@ use Rattle.std.specs.declared.option.Option.the-variants.{Some}
 use Rattle.std.specs.declared.result.Result.{Result}
 use Rattle.std.specs.declared.result.Result.the-variants.{Ok}
 use Rattle.theory.proofs.Views.{kept}
-use Rattle.theory.specs.Buckets.{insertions, closingFigure, top, total}
+use Rattle.theory.specs.Buckets.{closingFigure, insertions, top, total}
 use Rattle.theory.specs.Sound.{formed}
 use denote.Ref.{now}
 use Rattle.histogram.proofs.entering.enter.Needs as need
@@ -27,7 +27,7 @@ insert-buckets-requires c κs =
     let was = c .args .was in
     let t = c .args .tick in
     let xs = c .args .stretch .now in
-    let says = surveyed-says s (was .tick) (was .buckets) (s .window) t xs (Some (c .in-Some .kept)) (c .in-Some .ensures tt .value) in
+    let says = surveyed-says s was (s .window) t xs (Some (c .in-Some .kept)) (c .in-Some .ensures tt .value) in
     let later : was .tick ≤ t = c .if-tick-was .left in
     let n : c .in-Some .kept .buckets ≡ length (keptAt s was t xs) = ap (λ (x : Survey). x .buckets) (says .1) in
     let front : take (c .in-Some .kept .buckets) xs ≡ keptAt s was t xs = ap (λ (k : ℕ). take k xs) n ∙ kept-is s was t (c .args .arrivals)
@@ -48,7 +48,7 @@ returns c =
     let t = c .args .tick in
     let v = c .args .arrivals in
     let xs = c .args .stretch .now in
-    let says = surveyed-says s (was .tick) (was .buckets) (s .window) t xs (Some (c .in-Some .kept)) (c .in-Some .ensures tt .value) in
+    let says = surveyed-says s was (s .window) t xs (Some (c .in-Some .kept)) (c .in-Some .ensures tt .value) in
     let later : was .tick ≤ t = c .if-tick-was .left in
     let n : c .in-Some .kept .buckets ≡ length (keptAt s was t xs) = ap (λ (x : Survey). x .buckets) (says .1) in
     let front : take (c .in-Some .kept .buckets) xs ≡ keptAt s was t xs = ap (λ (k : ℕ). take k xs) n ∙ kept-is s was t v xs (says .0) later in
