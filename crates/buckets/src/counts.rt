@@ -44,7 +44,7 @@ impl Board {
     }
 
     /// Adds a count of arrivals at the next tick; answers whether there is one.
-    pub fn add(&mut self, count: u64) -> bool
+    pub(crate) fn add(&mut self, count: u64) -> bool
         requires small { ⌜ count ≤ 960 ⌝ }
         ensures after { λ a. ⌜ Added count (now (self .entry)) a (now (self .exit)) ⌝ }
     {

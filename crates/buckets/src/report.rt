@@ -43,7 +43,7 @@ fn list_sizes(out: &mut String, buckets: &[Entry]) -> fmt::Result
 }
 
 /// Prints the sizes of buckets on one line.
-pub fn write_sizes(out: &mut String, buckets: &[Entry]) -> fmt::Result
+pub(crate) fn write_sizes(out: &mut String, buckets: &[Entry]) -> fmt::Result
     requires { ⌜ All Small (now buckets) ⌝ }
     ensures { λ r. ⌜ made r (λ _. string-bytes (now (out .exit)) ≡ string-bytes (now (out .entry)) ++ sizesText (now (buckets .entry))) ⌝ }
 {
