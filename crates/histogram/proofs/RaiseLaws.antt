@@ -113,7 +113,7 @@ module _ {l t m e o i b : ℕ} {from : List ℕ} {xs : List Entry} {levels : Lis
   pub its-own : ownOf e (drop i (take b xs)) ≡ headOf levels
   its-own = ap (ownOf e) (ready .whole) ∙ own-flat l e levels (ready .canon)
 
-  -- what the code has raise-gathered
+  -- what the code has gathered
   pub raise-gathered : (came c : ℕ) (h₁ h₂ : List ℕ) → take came h₁ ≡ newer from → came ≡ length (newer from)
       → take c h₂ ≡ take came h₁ ++ ownOf e (drop i (take b xs)) → c ≡ came + length (ownOf e (drop i (take b xs)))
       → (take c h₂ ≡ stampsAt) × (c ≡ length stampsAt) × (c - came ≡ length (headOf levels))
