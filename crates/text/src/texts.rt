@@ -16,8 +16,8 @@ pub const MOST_BYTES: usize = 240;
 /// A text of more than 240 bytes is refused before it is read, and one that is not well formed with the place where
 /// its first character that fails begins.
 pub fn weigh_text<R: CountingRule>(rule: &R, text: &[u8]) -> Result<u64, TextFault>
-    ensures value { result ≡ weighed (weight rule.now) text.now }
-    ensures exact { Answered (Weighs (weight rule.now) text.now) text.now result }
+    ensures value { result ≡ weighed (R.weight rule.now) text.now }
+    ensures exact { Answered (Weighs (R.weight rule.now) text.now) text.now result }
     ensures small { IfOk result (λ v. v ≤ 960) }
     ensures same { rule.now ≡ rule.now }
 {

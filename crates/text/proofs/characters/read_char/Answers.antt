@@ -20,19 +20,19 @@ pub returns-in-len2-up : goal.returns-in-len2-up
 returns-in-len2-up c =
     let s = c.args.rest.now in
     let long : 2 ≤ length s = search rules in
-    let r = reads_at c.of-two.result (front2 s long) (c.of-two.ensures (drop 2 s)) in
-    record { reads = r; exact = reads_exactly s c.of-two.result r }
+    let r = reads_at c.of_two.result (front2 s long) (c.of_two.ensures (drop 2 s)) in
+    record { reads = r; exact = reads_exactly s c.of_two.result r }
 
 pub returns-in-len3-up : goal.returns-in-len3-up
 returns-in-len3-up c =
     let s = c.args.rest.now in
     let long : 3 ≤ length s = search rules in
-    let r = reads_at c.of-three.result (front3 s long) (c.of-three.ensures (drop 3 s)) in
-    record { reads = r; exact = reads_exactly s c.of-three.result r }
+    let r = reads_at c.of_three.result (front3 s long) (c.of_three.ensures (drop 3 s)) in
+    record { reads = r; exact = reads_exactly s c.of_three.result r }
 
 pub returns-in-len4-up : goal.returns-in-len4-up
 returns-in-len4-up c =
     let s = c.args.rest.now in
     let long : 4 ≤ length s = search rules in
-    let r = reads_at c.of-four.result (front4 s long) (c.of-four.ensures (drop 4 s)) in
-    record { reads = r; exact = reads_exactly s c.of-four.result r }
+    let r = reads_at c.of_four.result (front4 s long) (c.of_four.ensures (drop 4 s)) in
+    record { reads = r; exact = reads_exactly s c.of_four.result r }

@@ -9,8 +9,8 @@ use Rattle.text.proofs.rows.RowTable.add.Goals.{then-first-last-via-then-first-l
 count : (table : RowTable) → length (rows_of table) ≡ table.len
 count table = rows_count table.rows table.len table.fits
 
-pub returns-then-self-ge-MOST-ROWS : goal.returns-then-self-ge-MOST-ROWS
-returns-then-self-ge-MOST-ROWS c =
+pub returns-then-self-ge-MOST_ROWS : goal.returns-then-self-ge-MOST_ROWS
+returns-then-self-ge-MOST_ROWS c =
     let n = count c.args.self.now in
     record { value = answer_full _ c.args.first c.args.last c.args.weight (omega arith); after = refl; same = λ _. refl }
 
