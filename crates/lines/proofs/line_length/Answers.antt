@@ -3,8 +3,8 @@ use Rattle.std.proofs.lemmas.List.Sums.{prefix_len-drop_yes, prefix_len-drop_no,
 use Rattle.std.proofs.lemmas.Bool.{eq-eqb, ne_eqb}
 use Rattle.lines.proofs.line_length.Goals as goal
 
-pub returns-then-b-eq-LINE-END : goal.returns-then-b-eq-LINE-END
-returns-then-b-eq-LINE-END c =
+pub returns-then-b-eq-LINE_END : goal.returns-then-b-eq-LINE_END
+returns-then-b-eq-LINE_END c =
     let bytes = c.args.bytes.now in
     let i = c.loop-i.i in
     let ends : get_or bytes i 0 ≡ 10 = omega arith in
