@@ -14,7 +14,7 @@ pub trait CountingRule {
     /// The weight of a code point, and 0 for a number above the last one.
     fn weight_of(&self, code_point: u32) -> u8
         ensures value { result ≡ weight self.now code_point }
-        ensures same { self.now ≡ self.now };
+        ensures same { self.exit.now ≡ self.entry.now };
 
     ghost small: { (rule : Self) (c : ℕ) → weight rule c ≤ 4 };
 

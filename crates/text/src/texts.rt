@@ -19,7 +19,7 @@ pub fn weigh_text<R: CountingRule>(rule: &R, text: &[u8]) -> Result<u64, TextFau
     ensures value { result ≡ weighed (R.weight rule.now) text.now }
     ensures exact { Answered (Weighs (R.weight rule.now) text.now) text.now result }
     ensures small { IfOk result (λ v. v ≤ 960) }
-    ensures same { rule.now ≡ rule.now }
+    ensures same { rule.exit.now ≡ rule.entry.now }
 {
     if text.len() > MOST_BYTES {
         return Err(TextFault::TooLong);
