@@ -13,7 +13,7 @@ use Rattle.histogram.specs.declared.track.Standing.{Standing}
 use Rattle.std.proofs.ByRecursion.{All-weaker}
 use Rattle.std.proofs.lemmas.List.{take_at}
 use Rattle.std.proofs.lemmas.Bool.{cases_lt, cond-true, lt-ltb}
-use Rattle.std.specs.List.{AllByRecursion as All}
+use Rattle.std.specs.List.{AllByRecursion}
 use Rattle.theory.proofs.FullLaws.{batch_of, within_all}
 use Rattle.theory.proofs.SoundLaws.{sound_says}
 use Rattle.theory.proofs.Views.{cap}
@@ -21,7 +21,7 @@ use Rattle.theory.specs.Buckets.{closing_figure, insertions, top, total}
 use Rattle.theory.specs.Sound.{every, formed, is_zero, sound, zeros}
 use Rattle.theory.specs.declared.entries.Entry.{Entry}
 
-any_all : (P : Entry → Type 0) → ((b : Entry) → P b) → (bs : List Entry) → All P bs
+any_all : (P : Entry → Type 0) → ((b : Entry) → P b) → (bs : List Entry) → AllByRecursion P bs
 any_all P f [] = tt
 any_all P f (b ∷ bs) = (f b, any_all P f bs)
 
@@ -101,7 +101,7 @@ buckets_inside b =
     omega (arith, f.few, f.roomy, b.whole)
 
 -- and are small
-pub buckets_small : (b : Board) → All Small (board_buckets b)
+pub buckets_small : (b : Board) → AllByRecursion Small (board_buckets b)
 buckets_small b =
     let f = stretch_says b.settings.half b.settings.top b.settings.window b.standing.tick b.standing.buckets
     b.entries b.sound in

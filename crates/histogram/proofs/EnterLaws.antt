@@ -7,7 +7,7 @@ use Rattle.histogram.specs.declared.settings.Settings.{Settings}
 use Rattle.histogram.specs.declared.track.Standing.{Standing}
 use Rattle.std.proofs.lemmas.List.{drop_at, length-append, length-replicate, length-take-le, take_at, take-take}
 use Rattle.std.proofs.lemmas.Bool.{cond_both, cond-false, cond-true, le-ltb, ltb-false}
-use Rattle.std.specs.List.{AllByRecursion as All}
+use Rattle.std.specs.List.{AllByRecursion}
 use Rattle.theory.proofs.FullLaws.{insertion_sound}
 use Rattle.theory.proofs.KeepLaws.{dropping_keeps, insertions_keep, own_keeps, own_arrivals}
 use Rattle.theory.proofs.SoundLaws.{SoundBuckets, sound_says}
@@ -17,7 +17,7 @@ use Rattle.theory.specs.Buckets.{closing_figure, stamps, top, total, within}
 use Rattle.theory.specs.Sound.{every, formed, is_zero, sound, sound_buckets, zero_entry, zeros}
 use Rattle.theory.specs.declared.entries.Entry.{Entry}
 
-none_after : (W a s : ℕ) (bs : List Entry) → All (λ u. u ≤ s) (stamps bs) → s + W ≤ a → within W a bs ≡ []
+none_after : (W a s : ℕ) (bs : List Entry) → AllByRecursion (λ u. u ≤ s) (stamps bs) → s + W ≤ a → within W a bs ≡ []
 none_after W a s [] b h = refl
 none_after W a s (x ∷ bs) b h =
     cond-false (ltb a (x.stamp + W)) (x ∷ within W a bs) (within W a bs) (le-ltb a (x.stamp + W) (omega (arith, b.0)))

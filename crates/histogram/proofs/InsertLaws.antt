@@ -5,7 +5,7 @@ use Rattle.histogram.proofs.ZeroLaws.{Zero, zeros_say}
 use Rattle.histogram.specs.Raising.{Ready, incoming, laid, of_size, raised}
 use Rattle.histogram.specs.Settings.{room}
 use Rattle.std.proofs.lemmas.List.{append-nil, drop_at, drop-drop, drop-replicate, length-drop, length-replicate, replicate-append-replicate, take_at}
-use Rattle.std.specs.List.{AllByRecursion as All}
+use Rattle.std.specs.List.{AllByRecursion}
 use Rattle.theory.proofs.KeepLaws.{insertions_by_levels}
 use Rattle.theory.proofs.PushLaws.{all_canon}
 use Rattle.theory.proofs.SizeLaws.{all_total, few_levels}
@@ -52,7 +52,7 @@ start l r t v kept xs one small room form fits =
     }
 
 -- zero entries are zeros
-pub all_zeros : (xs : List Entry) → All Zero xs → xs ≡ zeros (length xs)
+pub all_zeros : (xs : List Entry) → AllByRecursion Zero xs → xs ≡ zeros (length xs)
 all_zeros [] h = refl
 all_zeros (x ∷ xs) h = ap₂ (λ (y : Entry) (ys : List Entry). y ∷ ys) (ap₂ (λ (s e : ℕ). of_size e s) h.0.0 h.0.1) (all_zeros xs h.1)
 

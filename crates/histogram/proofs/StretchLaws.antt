@@ -9,7 +9,7 @@ use Rattle.histogram.specs.declared.surveys.Survey.{Survey}
 use Rattle.histogram.specs.declared.track.Standing.{Standing}
 use Rattle.std.proofs.ByRecursion.{All-weaker}
 use Rattle.std.proofs.lemmas.Bool.{and_from, and_parts, cond_both, cond-false, cond-true, le-leb, leb-true}
-use Rattle.std.specs.List.{AllByRecursion as All}
+use Rattle.std.specs.List.{AllByRecursion}
 use Rattle.theory.proofs.FormLaws.{formed_levels}
 use Rattle.theory.proofs.FullLaws.{flat_small}
 use Rattle.theory.proofs.KeepLaws.{brackets_truth}
@@ -22,11 +22,11 @@ use Rattle.theory.specs.Levels.{Canonical, flat, row}
 use Rattle.theory.specs.Sound.{every, filled, formed, is_zero, never_rise, sound, sound_buckets, start_at_zero}
 use Rattle.theory.specs.declared.entries.Entry.{Entry}
 
-all_older : (P : Entry → Type 0) (e : ℕ) (ss : List ℕ) (older : List Entry) → All P (row e ss older) → All P older
+all_older : (P : Entry → Type 0) (e : ℕ) (ss : List ℕ) (older : List Entry) → AllByRecursion P (row e ss older) → AllByRecursion P older
 all_older P e [] older h = h
 all_older P e (s ∷ ss) older h = all_older P e ss older h.1
 
-tops_small : (l r e : ℕ) (levels : List (List ℕ)) → Canonical l levels → All (λ b. b.exponent ≤ r) (flat e levels) → e ≤ r + 1
+tops_small : (l r e : ℕ) (levels : List (List ℕ)) → Canonical l levels → AllByRecursion (λ b. b.exponent ≤ r) (flat e levels) → e ≤ r + 1
     → e + length levels ≤ r + 1
 tops_small l r e [] c h le = omega arith
 tops_small l r e ([] ∷ rest) c h le = absurd (omega (arith, c.0))
@@ -37,7 +37,7 @@ tops_small l r e ((s ∷ ss) ∷ rest) c h le =
 pub record TailFacts (l r own : ℕ) (bs : List Entry) : Type 0 where
   pub form : formed l own bs ≡ true
   pub falling : Falling (stamps bs)
-  pub small : All (λ b. b.exponent ≤ r) bs
+  pub small : AllByRecursion (λ b. b.exponent ≤ r) bs
 
 pub tail_facts : (l r own : ℕ) (bs : List Entry) → Tail l r 0 own bs → TailFacts l r own bs
 tail_facts l r own bs t =
@@ -47,12 +47,12 @@ tail_facts l r own bs t =
     record {
       form = formed_from l own bs form rise.0;
       falling = rise.1;
-      small = subst (All (λ b. b.exponent ≤ r)) (sym t.whole)
+      small = subst (AllByRecursion (λ b. b.exponent ≤ r)) (sym t.whole)
           (All-weaker (λ b. b.exponent < r + 1) (λ b. b.exponent ≤ r) (λ b q. omega arith) (flat 0 t.levels)
           (flat_small (r + 1) 0 t.levels t.tops));
     }
 
-pub facts_tail : (l r own : ℕ) (bs : List Entry) → formed l own bs ≡ true → All (λ b. b.exponent ≤ r) bs → Tail l r 0 own bs
+pub facts_tail : (l r own : ℕ) (bs : List Entry) → formed l own bs ≡ true → AllByRecursion (λ b. b.exponent ≤ r) bs → Tail l r 0 own bs
 facts_tail l r own bs f s =
     let form = formed_says l own bs f in
     let ls = levels_of l bs form.0 in
@@ -61,7 +61,7 @@ facts_tail l r own bs f s =
       whole = sym ls.1;
       canonical = ls.2;
       falls = (and_parts (never_rise own bs) (start_at_zero bs && filled l bs) f).0;
-      tops = tops_small l r 0 ls.0 ls.2 (subst (All (λ b. b.exponent ≤ r)) (sym ls.1) s) (omega arith);
+      tops = tops_small l r 0 ls.0 ls.2 (subst (AllByRecursion (λ b. b.exponent ≤ r)) (sym ls.1) s) (omega arith);
     }
 
 pub record StretchFacts (l r N own b : ℕ) (xs : List Entry) : Type 0 where

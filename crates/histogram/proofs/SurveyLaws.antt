@@ -5,7 +5,7 @@ use Rattle.histogram.specs.Surveys.{lives}
 use Rattle.std.proofs.lemmas.List.Elements.{filter-append}
 use Rattle.std.proofs.lemmas.List.{append-nil, take_more}
 use Rattle.std.proofs.lemmas.Bool.{and_parts, cond-false, cond-true, leb-true, lt-ltb, ltb-true}
-use Rattle.std.specs.List.{AllByRecursion as All}
+use Rattle.std.specs.List.{AllByRecursion}
 use Rattle.theory.specs.Arrivals.{Falling}
 use Rattle.theory.specs.Buckets.{low, oldest, size, stamps, total, within}
 use Rattle.theory.specs.Sound.{never_rise}
@@ -34,7 +34,7 @@ oldest_at c n bs d h g =
 
 -- if the oldest lives, all do
 all_live : (N own s : ℕ) (b : Entry) (bs : List Entry) → never_rise s (b ∷ bs) ≡ true → lives N own (b ∷ bs) ≡ true
-    → All (λ x. own < x.stamp + N) (b ∷ bs)
+    → AllByRecursion (λ x. own < x.stamp + N) (b ∷ bs)
 all_live N own s b [] f h = (ltb-true own (b.stamp + N) h, tt)
 all_live N own s b (c ∷ bs) f h =
     let w = (and_parts (leb b.stamp s) (never_rise b.stamp (c ∷ bs)) f).1 in
@@ -42,11 +42,11 @@ all_live N own s b (c ∷ bs) f h =
     let ih = all_live N own b.stamp c bs w h in
     (omega (arith, le, ih.0), ih)
 
-pub lives_all : (N own s : ℕ) (bs : List Entry) → never_rise s bs ≡ true → lives N own bs ≡ true → All (λ x. own < x.stamp + N) bs
+pub lives_all : (N own s : ℕ) (bs : List Entry) → never_rise s bs ≡ true → lives N own bs ≡ true → AllByRecursion (λ x. own < x.stamp + N) bs
 lives_all N own s [] f h = tt
 lives_all N own s (b ∷ bs) f h = all_live N own s b bs f h
 
-pub all_lives : (N own : ℕ) (bs : List Entry) → All (λ x. own < x.stamp + N) bs → lives N own bs ≡ true
+pub all_lives : (N own : ℕ) (bs : List Entry) → AllByRecursion (λ x. own < x.stamp + N) bs → lives N own bs ≡ true
 all_lives N own [] h = refl
 all_lives N own (b ∷ []) h = lt-ltb own (b.stamp + N) h.0
 all_lives N own (b ∷ (c ∷ bs)) h = all_lives N own (c ∷ bs) h.1
@@ -64,7 +64,7 @@ module _ (W a : ℕ) where
       sym (ap (within W a) (split_last bs n d h k) ∙ filter-append (λ (b : Entry). ltb a (b.stamp + W)) (take (n - 1) bs) (x ∷ [])
       ∙ ap (λ (z : List Entry). within W a (take (n - 1) bs) ++ z) out ∙ append-nil (within W a (take (n - 1) bs)))
 
-  below_last : (s : ℕ) (ys : List Entry) (x : Entry) → All (λ u. u ≤ s) (stamps (ys ++ x ∷ [])) → x.stamp ≤ s
+  below_last : (s : ℕ) (ys : List Entry) (x : Entry) → AllByRecursion (λ u. u ≤ s) (stamps (ys ++ x ∷ [])) → x.stamp ≤ s
   below_last s [] x b = b.0
   below_last s (y ∷ ys) x b = below_last s ys x b.1
 
@@ -75,7 +75,7 @@ module _ (W a : ℕ) where
       (lt-ltb a (y.stamp + W) (omega (arith, below_last y.stamp ys x f.0)))
       ∙ ap {B = List Entry} (λ r. y ∷ r) (all_within ys x f.1 h)
 
-  below_take : (s n : ℕ) (bs : List Entry) → All (λ u. u ≤ s) (stamps bs) → All (λ u. u ≤ s) (stamps (take n bs))
+  below_take : (s n : ℕ) (bs : List Entry) → AllByRecursion (λ u. u ≤ s) (stamps bs) → AllByRecursion (λ u. u ≤ s) (stamps (take n bs))
   below_take s zero bs b = tt
   below_take s (suc n) [] b = tt
   below_take s (suc n) (x ∷ bs) b = (b.0, below_take s n bs b.1)

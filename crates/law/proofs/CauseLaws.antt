@@ -12,7 +12,7 @@ use Rattle.law.specs.declared.faults.CallFault.{CallFault}
 use Rattle.law.specs.declared.kinds.Outcome.TheVariants.{Answered, Done, Refused}
 use Rattle.law.specs.declared.kinds.Outcome.{Outcome}
 use Rattle.law.specs.declared.shapes.Shape.{Shape}
-use Rattle.std.specs.List.{AllByRecursion as All}
+use Rattle.std.specs.List.{AllByRecursion}
 use Rattle.text.specs.Texts.{weighed}
 use Rattle.text.specs.declared.faults.TextFault.TheVariants.{Malformed, TooLong}
 use Rattle.text.specs.declared.faults.TextFault.{TextFault}
@@ -36,16 +36,16 @@ text_fine (Ok v) = tt
 text_fine (Err TooLong) = omega arith
 text_fine (Err (Malformed at)) = omega arith
 
-verdict_fine : (tests : List (Option CallFault)) → All Fine tests → Fine (verdict tests)
+verdict_fine : (tests : List (Option CallFault)) → AllByRecursion Fine tests → Fine (verdict tests)
 verdict_fine [] h = tt
 verdict_fine (None ∷ tests) h = verdict_fine tests h.1
 verdict_fine (Some fault ∷ tests) h = h.0
 
 module _ (s : Shape) (w : ℕ → ℕ) where
-  ask_fine : (i a W : ℕ) (x : Since) (rest : List (Option CallFault)) → All Fine rest → All Fine (ask_causes i a W x rest)
+  ask_fine : (i a W : ℕ) (x : Since) (rest : List (Option CallFault)) → AllByRecursion Fine rest → AllByRecursion Fine (ask_causes i a W x rest)
   ask_fine i a W x rest h = (when_fine _ (EarlyTick i) (omega arith), (when_fine _ (BadWindow i) (omega arith), h))
 
-  act_fine : (i : ℕ) (act : Act) (y : Standing) → All Fine (act_causes s w i act y)
+  act_fine : (i : ℕ) (act : Act) (y : Standing) → AllByRecursion Fine (act_causes s w i act y)
   act_fine i (Opening t k N R) Shut = (
     when_fine _ LateTick (omega arith),
     (
@@ -67,11 +67,11 @@ module _ (s : Shape) (w : ℕ → ℕ) where
   act_fine i Retiring Shut = (omega arith, tt)
   act_fine i Retiring (Opened x) = tt
 
-  join_fine : (i a W : ℕ) (y : Standing) (rest : List (Option CallFault)) → All Fine rest → All Fine (join_causes i a W y rest)
+  join_fine : (i a W : ℕ) (y : Standing) (rest : List (Option CallFault)) → AllByRecursion Fine rest → AllByRecursion Fine (join_causes i a W y rest)
   join_fine i a W Shut rest h = h
   join_fine i a W (Opened x) rest h = ask_fine i a W x rest h
 
-  over_fine : (a W i m : ℕ) (h : History) → All Fine (causes_over w a W i m h)
+  over_fine : (a W i m : ℕ) (h : History) → AllByRecursion Fine (causes_over w a W i m h)
   over_fine a W i zero h = tt
   over_fine a W i (suc m) h = join_fine i a W (since w i h) (causes_over w a W (suc i) m h) (over_fine a W (suc i) m h)
 
@@ -79,7 +79,7 @@ module _ (s : Shape) (w : ℕ → ℕ) where
   slab_fine Own = tt
   slab_fine (Other slab) = when_fine _ SlabLength (omega arith)
 
-  causes_fine : (c : PlainCall) (b : Brought) (h : History) → All Fine (causes s w c b h)
+  causes_fine : (c : PlainCall) (b : Brought) (h : History) → AllByRecursion Fine (causes s w c b h)
   causes_fine (At i act) b h = (slab_fine b, (when_fine _ NoSuchTrack (omega arith), act_fine i act (since w i h)))
   causes_fine (Total a W) b h =
       (slab_fine b, (when_fine _ LateTick (omega arith), (when_fine _ NoWindow (omega arith), over_fine a W 0 s.tracks h)))

@@ -6,7 +6,7 @@ use Rattle.law.proofs.LargestLaws.{largest_one}
 use Rattle.law.specs.Calls.{room_for}
 use Rattle.law.specs.Examples.{Asked, Characters, Room, Shown, Weight, Worked}
 use Rattle.law.specs.Tracks.{largest, largest_up_to}
-use Rattle.std.specs.List.{AllByRecursion as All}
+use Rattle.std.specs.List.{AllByRecursion}
 use Rattle.text.proofs.TextLaws.{verdict-weighed}
 use Rattle.text.specs.Encoding.{Scalar, Spells}
 use Rattle.text.specs.Weights.{blank_counting, blank_free}

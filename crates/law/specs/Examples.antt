@@ -1,6 +1,6 @@
 -- Worked examples: one table, and one statement about it.
 use Rattle.std.specs.Prelude.{◌≡◌, ℕ, List, [], ◌∷◌, map, length, take, Ok, codes}
-use Rattle.std.specs.List.{AllByRecursion as All}
+use Rattle.std.specs.List.{AllByRecursion}
 use Rattle.text.specs.Texts.{weighed}
 use Rattle.text.specs.Weights.{blank_counting, blank_free}
 use Rattle.theory.specs.Buckets.{size}
@@ -48,4 +48,4 @@ examples =
     ∷ []
 
 abbrev pub Worked : Type 0
-Worked = All Shown examples
+Worked = AllByRecursion Shown examples

@@ -1,6 +1,6 @@
 -- The laws of cutting a stream into lines, for the proofs of callers: `pieces`, `kept`, `by_length`, `cuts`, and `cut_is`.
 use Rattle.std.proofs.Common.{◌≡◌, ℕ, zero, suc, ◌+◌, not, List, [], ◌∷◌, ◌++◌, take, drop, sym, refl, ap, ◌∙◌, subst, ⊎_elim, append_assoc, append-nil, add-one, one-add, arith}
-use Rattle.std.specs.List.{flat_map, AllByRecursion as All}
+use Rattle.std.specs.List.{flat_map, AllByRecursion}
 use Rattle.std.proofs.ByRecursion.{All-push}
 use Rattle.std.proofs.lemmas.Bool.{eq-eqb, ne_eqb, cond-true, cond-false, cases_eq}
 use Rattle.lines.specs.Lines.{line_length, ended, unended, Pieces, Kept, Ends, GoesOn, ByLength, Unbroken, written, Cut, Cuts}
@@ -115,18 +115,18 @@ ended-written held (b ∷ bs) =
     (cases_eq b 10)
 
 -- byte 10 stands in no line and not in the rest
-ended_unbroken : (held s : List ℕ) → Unbroken held → All Unbroken (ended held s) × Unbroken (unended held s)
+ended_unbroken : (held s : List ℕ) → Unbroken held → AllByRecursion Unbroken (ended held s) × Unbroken (unended held s)
 ended_unbroken held [] free = (tt, free)
 ended_unbroken held (b ∷ bs) free =
     ⊎_elim
     (λ e.
     let now = ended_end held b bs e in
     let more = ended_unbroken [] bs tt in
-    (subst (All Unbroken) (sym now.0) (free, more.0), subst Unbroken (sym now.1) more.1))
+    (subst (AllByRecursion Unbroken) (sym now.0) (free, more.0), subst Unbroken (sym now.1) more.1))
     (λ e.
     let now = ended_byte held b bs e in
     let more = ended_unbroken (held ++ b ∷ []) bs (All-push _ held b free e) in
-    (subst (All Unbroken) (sym now.0) more.0, subst Unbroken (sym now.1) more.1))
+    (subst (AllByRecursion Unbroken) (sym now.0) more.0, subst Unbroken (sym now.1) more.1))
     (cases_eq b 10)
 
 -- a line, its byte 10 and what comes after

@@ -1,6 +1,6 @@
 -- How a stream of bytes is cut into lines: a line ends before byte 10, which is not part of it.
 use Rattle.std.specs.Prelude.{◌≡◌, ℕ, ◌+◌, ◌<◌, ◌≤◌, cond, not, List, [], ◌∷◌, ◌++◌, length, take, drop, ◌==◌, ◌≢◌}
-use Rattle.std.specs.List.{flat_map, prefix_len, AllByRecursion as All}
+use Rattle.std.specs.List.{flat_map, prefix_len, AllByRecursion}
 
 -- how many bytes stand before the first byte 10, all of them if there is none
 abbrev pub line_length : List ℕ → ℕ
@@ -51,7 +51,7 @@ ByLength = (held s : List ℕ)
 
 -- no byte of these is byte 10
 abbrev pub Unbroken : List ℕ → Type 0
-Unbroken line = All (λ b. b ≢ 10) line
+Unbroken line = AllByRecursion (λ b. b ≢ 10) line
 
 -- the lines, each followed by byte 10, and then the rest
 abbrev pub written : List (List ℕ) → List ℕ → List ℕ
@@ -59,7 +59,7 @@ written lines rest = flat_map (λ line. line ++ 10 ∷ []) lines ++ rest
 
 -- s is these lines and this rest, and byte 10 stands in none of them
 abbrev pub Cut : List ℕ → List (List ℕ) → List ℕ → Type 0
-Cut s lines rest = (written lines rest ≡ s) × All Unbroken lines × Unbroken rest
+Cut s lines rest = (written lines rest ≡ s) × AllByRecursion Unbroken lines × Unbroken rest
 
 -- the ended lines and the unended rest are a cut of the stream, and it has no other
 abbrev pub Cuts : Type 0

@@ -4,7 +4,7 @@ use lib.Utf8 as library
 use Rattle.std.proofs.lemmas.Bool.{cond-true, cond-false, lt-ltb, le-ltb, cases_lt, and_parts, and_from}
 use Rattle.std.proofs.lemmas.Str.{encode_ascii}
 use Rattle.std.proofs.lemmas.Bool.Decides.{nat_tests}
-use Rattle.std.specs.List.{AllByRecursion as All}
+use Rattle.std.specs.List.{AllByRecursion}
 use Rattle.text.specs.Encoding.{Scalar, later, encode, encode_all, Agrees}
 use Rattle.text.proofs.EncodingLaws.{encode_one, encode_two, encode_three, encode_four}
 
@@ -37,7 +37,7 @@ encode_agrees c =
     (λ h. encode_two c g h ∙ sym (library_two c g h)) (cases_lt 0x7FF c))
     (λ h. encode_one c h ∙ sym (encode_ascii c (omega arith))) (cases_lt 0x7F c)
 
-scalars_agree : (cs : List ℕ) → All Scalar cs ↔ (library.scalars cs ≡ true)
+scalars_agree : (cs : List ℕ) → AllByRecursion Scalar cs ↔ (library.scalars cs ≡ true)
 scalars_agree [] = (λ _. refl, λ _. tt)
 scalars_agree (c ∷ cs) = (
   λ h. and_from _ _ ((scalar_agrees c).0 h.0) ((scalars_agree cs).0 h.1),

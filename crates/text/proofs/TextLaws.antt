@@ -6,7 +6,7 @@ use Rattle.std.proofs.lemmas.List.{append_cancel_left, drop_all, flat_map_more, 
 use Rattle.std.proofs.lemmas.List.Sums.{sum_by_push}
 use Rattle.std.proofs.lemmas.Bool.{cond-true, cond-false, cases_lt, cases_eq, and_parts, and_from, eqb-true, eq-eqb, ne_eqb, lt-ltb, le-ltb, false≢true}
 use Rattle.std.proofs.lemmas.Bool.Decides.{nat_tests}
-use Rattle.std.specs.List.{AllByRecursion as All}
+use Rattle.std.specs.List.{AllByRecursion}
 use Rattle.text.specs.Characters.{Begins, NoneBegins}
 use Rattle.text.specs.Encoding.{Scalar, encode, encode_all, Spells, WellFormed}
 use Rattle.text.specs.Texts.{Reading, OneReading, OneSpelling, Weighs, FailsAt, Answered, starts_with, is_scalar, first_below, first_character, characters_up_to, characters, weighed}
@@ -25,7 +25,7 @@ pub none_begins_nil : NoneBegins []
 none_begins_nil c b = let h = begins_long [] c b in omega arith
 
 -- a reading that has a character begins with it
-first_begins : (s : List ℕ) (c : ℕ) (cs rest : List ℕ) → All Scalar (c ∷ cs) → s ≡ encode_all (c ∷ cs) ++ rest → Begins s c
+first_begins : (s : List ℕ) (c : ℕ) (cs rest : List ℕ) → AllByRecursion Scalar (c ∷ cs) → s ≡ encode_all (c ∷ cs) ++ rest → Begins s c
 first_begins s c cs rest h e = (h.0, (encode_all cs ++ rest, e ∙ append_assoc (encode c) (encode_all cs) rest))
 
 pub one_reading : OneReading
@@ -204,7 +204,7 @@ weight_answered w s = answered (Weighs w s) s (one_weight w s) (λ v p. (p.0, p.
 -- what the loop has read of s: the characters before the byte `at`, which weigh total
 pub record Sofar (w : ℕ → ℕ) (s : List ℕ) (at total : ℕ) : Type 0 where
   pub cs : List ℕ
-  pub scalars : All Scalar cs
+  pub scalars : AllByRecursion Scalar cs
   pub split : s ≡ encode_all cs ++ drop at s
   pub long : at ≡ length (encode_all cs)
   pub sum : total ≡ sum_by w cs

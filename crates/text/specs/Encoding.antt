@@ -1,7 +1,7 @@
 -- UTF-8 from the encoder's side, as RFC 3629 has it: which numbers are characters, and the bytes of each.
 use Rattle.std.specs.Prelude.{◌≡◌, ℕ, ◌+◌, ◌/◌, ◌%◌, ◌<◌, ◌≤◌, true, cond, ◌⊎◌, ◌↔◌, List, [], ◌∷◌, IsUtf8, nat_le}
 use Rattle.std.proofs.Math.Utf8 as library
-use Rattle.std.specs.List.{flat_map, AllByRecursion as All}
+use Rattle.std.specs.List.{flat_map, AllByRecursion}
 
 -- a scalar value: a code point that is no surrogate
 abbrev pub Scalar : ℕ → Type 0
@@ -25,7 +25,7 @@ encode_all cs = flat_map encode cs
 
 -- bs is the concatenation of the encodings of the scalar values cs
 abbrev pub Spells : List ℕ → List ℕ → Type 0
-Spells cs bs = All Scalar cs × (encode_all cs ≡ bs)
+Spells cs bs = AllByRecursion Scalar cs × (encode_all cs ≡ bs)
 
 -- bs is well formed: some list of scalar values spells it
 abbrev pub WellFormed : List ℕ → Type 0

@@ -4,7 +4,7 @@ use mathlib.Core.List.{reverse_aux, append_assoc, append-nil}
 use Rattle.std.proofs.Common.{⊎_elim, sym, ap, ◌∙◌}
 use Rattle.std.proofs.lemmas.List.{reverse-append, map_more, map_push, take_more_set, length-map, length-take-le}
 use Rattle.std.proofs.lemmas.Bool.{cond-true, cond-false, cond_both, le-leb, lt-leb, lt-ltb, le-ltb, or_left, or_right, or_from}
-use Rattle.std.specs.List.{AllByRecursion as All}
+use Rattle.std.specs.List.{AllByRecursion}
 use Rattle.text.specs.declared.rows.Row.{Row}
 use Rattle.text.specs.Rows.{Figures, figures, holds, first_holding, row_answer, LastDecides}
 use Rattle.text.specs.declared.row_table.RowFault.TheVariants.{TableFull, BadRange, TooHeavy}
@@ -21,7 +21,7 @@ table_more c rows i row h read =
     ∙ ap (λ r. cond (holds c (figures r)) r.weight (first_holding c (reverse (map figures (take i rows))))) (sym read)
 
 -- later rows that do not hold the code point change nothing
-later_passed : (c : ℕ) (rows later : List Figures) → All (λ row. holds c row ≡ false) later → first_holding c (reverse (rows ++ later)) ≡ first_holding c (reverse rows)
+later_passed : (c : ℕ) (rows later : List Figures) → AllByRecursion (λ row. holds c row ≡ false) later → first_holding c (reverse (rows ++ later)) ≡ first_holding c (reverse rows)
 later_passed c rows [] h = ap (λ l. first_holding c (reverse l)) (append-nil rows)
 later_passed c rows (row ∷ later) h =
     ap (λ l. first_holding c (reverse l)) (sym (append_assoc rows (row ∷ []) later))

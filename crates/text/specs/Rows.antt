@@ -1,6 +1,6 @@
 -- What a row table weighs, and what adding a row answers and leaves.
 use Rattle.std.specs.Prelude.{◌≡◌, ℕ, ◌≤◌, Bool, true, false, cond, ◌&&◌, ◌||◌, List, [], ◌∷◌, ◌++◌, map, reverse, take, Ok, Err, Result, nat_le, nat_lt}
-use Rattle.std.specs.List.{AllByRecursion as All}
+use Rattle.std.specs.List.{AllByRecursion}
 use Rattle.text.specs.declared.rows.Row.{Row}
 use Rattle.text.specs.declared.rows.RowTable.{RowTable}
 use Rattle.text.specs.declared.row_table.RowFault.{RowFault}
@@ -56,5 +56,5 @@ row_fault_number (TooHeavy weight) = 21
 abbrev pub LastDecides : Type 0
 LastDecides =
     (c : ℕ) → c ≤ 1114111
-    → ((earlier later : List Figures) (row : Figures) → holds c row ≡ true → All (λ other. holds c other ≡ false) later → row_table (earlier ++ row ∷ later) c ≡ row.weight)
-    × ((rows : List Figures) → All (λ row. holds c row ≡ false) rows → row_table rows c ≡ 1)
+    → ((earlier later : List Figures) (row : Figures) → holds c row ≡ true → AllByRecursion (λ other. holds c other ≡ false) later → row_table (earlier ++ row ∷ later) c ≡ row.weight)
+    × ((rows : List Figures) → AllByRecursion (λ row. holds c row ≡ false) rows → row_table rows c ≡ 1)

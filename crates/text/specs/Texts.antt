@@ -1,6 +1,6 @@
 -- What a text holds, which texts pass, and what a text weighs under a rule.
 use Rattle.std.specs.Prelude.{◌≡◌, ℕ, zero, suc, ◌<◌, ◌≤◌, Bool, true, false, cond, ◌&&◌, ◌||◌, ◌↔◌, List, [], ◌∷◌, ◌++◌, length, drop, Some, None, Ok, Err, sum_by, Option, Result, ◌==◌, nat_le, nat_lt}
-use Rattle.std.specs.List.{AllByRecursion as All}
+use Rattle.std.specs.List.{AllByRecursion}
 use Rattle.text.specs.Characters.{NoneBegins}
 use Rattle.text.specs.Encoding.{Scalar, encode, encode_all, Spells}
 use Rattle.text.specs.declared.faults.TextFault.{TextFault}
@@ -8,7 +8,7 @@ use Rattle.text.specs.declared.faults.TextFault.TheVariants.{TooLong, Malformed}
 
 -- cs are the characters of s up to rest, and no character begins rest
 pub record Reading (s cs rest : List ℕ) : Type 0 where
-  pub scalars : All Scalar cs
+  pub scalars : AllByRecursion Scalar cs
   pub split : s ≡ encode_all cs ++ rest
   pub stops : NoneBegins rest
 

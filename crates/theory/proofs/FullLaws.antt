@@ -3,7 +3,7 @@ use Rattle.std.proofs.Common.{◌≡◌, ℕ, zero, suc, ◌+◌, ◌-◌, ◌*�
 use Rattle.std.proofs.ByRecursion.{all_kept_by, All-weaker, kept_by_passes}
 use Rattle.std.proofs.lemmas.List.{append-nil, length-replicate}
 use Rattle.std.proofs.lemmas.Bool.{cases_lt, cond_both, cond-true, eqb-false, lt-ltb, ltb-false, ltb-true}
-use Rattle.std.specs.List.{AllByRecursion as All}
+use Rattle.std.specs.List.{AllByRecursion}
 use Rattle.theory.proofs.BracketLaws.{error_bound}
 use Rattle.theory.proofs.GroupLaws.{groups, groups_stand}
 use Rattle.theory.proofs.KeepLaws.{at_levels, dropping_keeps, good_from, good_inserts, insertions_by_levels, insertions_keep, own_below, own_fall, own_keeps, own_arrivals}
@@ -44,7 +44,7 @@ window_few R a us h b (suc W) = omega (arith, one_tick W a us, h (a - W), window
 
 -- what holds of each arrival holds of each bucket's stamp
 pub stamps_from : (Q : ℕ → Type 0) (N t : ℕ) (us : List ℕ) → ((k : ℕ) → k < length us → Q (get_or us k 0)) → (p : ℕ) (bs : List Entry)
-    → Stands N t us p bs → All (λ x. Q x.stamp) bs
+    → Stands N t us p bs → AllByRecursion (λ x. Q x.stamp) bs
 stamps_from Q N t us h p [] s = tt
 stamps_from Q N t us h p (x ∷ bs) s =
     (subst Q s.1 (h p (omega (arith, s.0, pow_pos x.exponent))), stamps_from Q N t us h (p + size x) bs s.2)
@@ -55,42 +55,42 @@ all_copies Q zero s us q h k lt = h k lt
 all_copies Q (suc n) s us q h zero lt = q
 all_copies Q (suc n) s us q h (suc k) lt = all_copies Q n s us q h k (omega arith)
 
-row_small : (m e : ℕ) → e < m → (ss : List ℕ) (older : List Entry) → All (λ x. x.exponent < m) older → All (λ x. x.exponent < m) (row e ss older)
+row_small : (m e : ℕ) → e < m → (ss : List ℕ) (older : List Entry) → AllByRecursion (λ x. x.exponent < m) older → AllByRecursion (λ x. x.exponent < m) (row e ss older)
 row_small m e h [] older o = o
 row_small m e h (s ∷ ss) older o = (h, row_small m e h ss older o)
 
-pub flat_small : (m e : ℕ) (levels : List (List ℕ)) → e + length levels ≤ m → All (λ x. x.exponent < m) (flat e levels)
+pub flat_small : (m e : ℕ) (levels : List (List ℕ)) → e + length levels ≤ m → AllByRecursion (λ x. x.exponent < m) (flat e levels)
 flat_small m e [] h = tt
 flat_small m e (ss ∷ rest) h = row_small m e (omega arith) ss (flat (suc e) rest) (flat_small m (suc e) rest (omega arith))
 
-own_all : (Q : ℕ → Type 0) (bs : List Entry) → All (λ b. Q b.stamp) bs → (k : ℕ) → k < length (own_arrivals bs) → Q (get_or (own_arrivals bs) k 0)
+own_all : (Q : ℕ → Type 0) (bs : List Entry) → AllByRecursion (λ b. Q b.stamp) bs → (k : ℕ) → k < length (own_arrivals bs) → Q (get_or (own_arrivals bs) k 0)
 own_all Q [] e k lt = absurd (omega arith)
 own_all Q (x ∷ bs) e k lt = all_copies Q (size x) x.stamp (own_arrivals bs) e.0 (own_all Q bs e.1) k lt
 
-pub within_live : (N t : ℕ) (bs : List Entry) → All (λ b. t < b.stamp + N) (within N t bs)
+pub within_live : (N t : ℕ) (bs : List Entry) → AllByRecursion (λ b. t < b.stamp + N) (within N t bs)
 within_live N t bs = All-weaker (λ b. ltb t (b.stamp + N) ≡ true) (λ b. t < b.stamp + N) (λ b q. ltb-true t (b.stamp + N) q)
     (within N t bs) (kept_by_passes (λ b. ltb t (b.stamp + N)) bs)
 
-pub all_within : (P : Entry → Type 0) (N t : ℕ) (bs : List Entry) → All P bs → All P (within N t bs)
+pub all_within : (P : Entry → Type 0) (N t : ℕ) (bs : List Entry) → AllByRecursion P bs → AllByRecursion P (within N t bs)
 all_within P N t bs h = all_kept_by (λ b. ltb t (b.stamp + N)) P bs h
 
-pub within_all : (N t : ℕ) (bs : List Entry) → All (λ b. t < b.stamp + N) bs → within N t bs ≡ bs
+pub within_all : (N t : ℕ) (bs : List Entry) → AllByRecursion (λ b. t < b.stamp + N) bs → within N t bs ≡ bs
 within_all N t [] h = refl
 within_all N t (b ∷ bs) h =
     cond-true (ltb t (b.stamp + N)) (b ∷ within N t bs) (within N t bs) (lt-ltb t (b.stamp + N) h.0)
     ∙ ap {B = List Entry} (λ r. b ∷ r) (within_all N t bs h.1)
 
-stamps_all : (P : ℕ → Type 0) (bs : List Entry) → All P (stamps bs) → All (λ b. P b.stamp) bs
+stamps_all : (P : ℕ → Type 0) (bs : List Entry) → AllByRecursion P (stamps bs) → AllByRecursion (λ b. P b.stamp) bs
 stamps_all P [] h = tt
 stamps_all P (b ∷ bs) h = (h.0, stamps_all P bs h.1)
 
-pub all_stamps : (P : ℕ → Type 0) (bs : List Entry) → All (λ b. P b.stamp) bs → All P (stamps bs)
+pub all_stamps : (P : ℕ → Type 0) (bs : List Entry) → AllByRecursion (λ b. P b.stamp) bs → AllByRecursion P (stamps bs)
 all_stamps P [] h = tt
 all_stamps P (b ∷ bs) h = (h.0, all_stamps P bs h.1)
 
 -- v arrivals at tick t into live buckets leave live buckets
-pub inserted_live : (l N t v : ℕ) (bs : List Entry) → 1 ≤ l → 0 < N → Formed l bs → Below t (stamps bs) → All (λ b. t < b.stamp + N) bs
-    → All (λ b. t < b.stamp + N) (insertions l v t bs)
+pub inserted_live : (l N t v : ℕ) (bs : List Entry) → 1 ≤ l → 0 < N → Formed l bs → Below t (stamps bs) → AllByRecursion (λ b. t < b.stamp + N) bs
+    → AllByRecursion (λ b. t < b.stamp + N) (insertions l v t bs)
 inserted_live l N t v bs one pos f b live =
     let good = good_inserts l N t v t one (own_arrivals bs) bs (own_below t bs b) (own_fall bs f.falling)
     (good_from l N t (own_arrivals bs) bs (own_keeps l N t bs f b)) in
@@ -116,7 +116,7 @@ batch_of l t v bs one h =
 
 -- few levels: few buckets, and small exponents
 levels_room : (l r : ℕ) (levels : List (List ℕ)) → Canonical l levels → total (flat 0 levels) ≤ closing_figure l r
-    → (length (flat 0 levels) ≤ (l + 1) * (r + 1)) × All (λ b. b.exponent ≤ r) (flat 0 levels)
+    → (length (flat 0 levels) ≤ (l + 1) * (r + 1)) × AllByRecursion (λ b. b.exponent ≤ r) (flat 0 levels)
 levels_room l r levels c h =
     let few : length levels ≤ r + 1 = few_levels l r levels c h in
     let m : (l + 1) * length levels ≤ (l + 1) * (r + 1) = mul-le-mul_left (l + 1) few in (
@@ -152,7 +152,7 @@ insertion_sound l r N early t v bs one pos le h fits =
         form = formed-after.0;
         arrived = formed-after.1;
         live = inserted_live l N t v (within N t bs) one pos facts.0 facts.1 (within_live N t bs);
-        small = subst (All (λ b. b.exponent ≤ r)) (sym b.same) room.1;
+        small = subst (AllByRecursion (λ b. b.exponent ≤ r)) (sym b.same) room.1;
       }),
       omega (arith, ap length b.same, room.0),
     )
@@ -219,7 +219,7 @@ not_largest : (l m r : ℕ) → Largest l m r → (l * (2 ^ (r + 1) - 1) < m) �
 not_largest l m r h (inl lt) = absurd (omega (arith, h.last (r + 1) lt))
 not_largest l m r h (inr le) = le
 
-top_small : (e r : ℕ) (bs : List Entry) → e ≤ r → All (λ b. b.exponent ≤ r) bs → top_from e bs ≤ r
+top_small : (e r : ℕ) (bs : List Entry) → e ≤ r → AllByRecursion (λ b. b.exponent ≤ r) bs → top_from e bs ≤ r
 top_small e r [] h k = h
 top_small e r (b ∷ bs) h k = top_small b.exponent r bs k.0 k.1
 
@@ -234,12 +234,12 @@ never_full l r m N early t v us bs one pos le largest keeps few =
     let stands = (good_from l N t (replicate v t ++ us) (insertions l v t (within N t bs)) after).1 in
     let fit : total (flat 0 b.levels) ≤ closing_figure l r =
     levels_fit l r N t (replicate v t ++ us) b.levels b.canonical after.falling (subst (Stands N t (replicate v t ++ us) 0) b.same stands)
-    (within_all N t (flat 0 b.levels) (subst (All (λ b. t < b.stamp + N)) b.same live))
+    (within_all N t (flat 0 b.levels) (subst (AllByRecursion (λ b. t < b.stamp + N)) b.same live))
     (omega (arith, few, not_largest l m r largest (cases_lt (l * (2 ^ (r + 1) - 1)) m))) in
     let room = levels_room l r b.levels b.canonical fit in
     record {
       closing = omega (arith, b.sizes, fit);
-      exponents = top_small 0 r (insertions l v t (within N t bs)) (omega arith) (subst (All (λ b. b.exponent ≤ r)) (sym b.same) room.1);
+      exponents = top_small 0 r (insertions l v t (within N t bs)) (omega arith) (subst (AllByRecursion (λ b. b.exponent ≤ r)) (sym b.same) room.1);
       room = omega (arith, ap length b.same, room.0);
     }
 

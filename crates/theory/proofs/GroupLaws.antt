@@ -2,14 +2,14 @@
 use Rattle.std.proofs.Common.{◌≡◌, ℕ, ◌+◌, ◌-◌, ◌≤◌, List, [], ◌∷◌, ◌++◌, length, get_or, take, drop, sym, refl, ap, ◌∙◌, subst, append_assoc, arith, pow_pos}
 use Rattle.std.proofs.ByRecursion.{All-from_get_or, All-get_or}
 use Rattle.std.proofs.lemmas.List.{drop-drop, get_or_append_left, get_or-append_right, get_or-drop, get_or-take, length-append, length-drop, length-take-le, take-append-drop}
-use Rattle.std.specs.List.{AllByRecursion as All}
+use Rattle.std.specs.List.{AllByRecursion}
 use Rattle.theory.proofs.Views.{Stands}
 use Rattle.theory.specs.Arrivals.{Groups}
 use Rattle.theory.specs.Buckets.{size}
 use Rattle.theory.specs.declared.entries.Entry.{Entry}
 
 pub groups : (N t : ℕ) (us : List ℕ) (p : ℕ) (bs : List Entry) → Stands N t us p bs
-    → (front : List ℕ) × (back : List ℕ) × (drop p us ≡ front ++ back) × Groups bs front × All (λ u. u + N ≤ t) back
+    → (front : List ℕ) × (back : List ℕ) × (drop p us ≡ front ++ back) × Groups bs front × AllByRecursion (λ u. u + N ≤ t) back
 groups N t us p [] h = (
   [],
   drop p us,
@@ -32,7 +32,7 @@ groups N t us p (b ∷ bs) h =
       ih.4,
     )
 
-from_groups : (N t : ℕ) (us back : List ℕ) → All (λ u. u + N ≤ t) back → (pre front : List ℕ) (bs : List Entry) → us ≡ pre ++ (front ++ back)
+from_groups : (N t : ℕ) (us back : List ℕ) → AllByRecursion (λ u. u + N ≤ t) back → (pre front : List ℕ) (bs : List Entry) → us ≡ pre ++ (front ++ back)
     → Groups bs front → Stands N t us (length pre) bs
 from_groups N t us back h pre front [] e r =
     λ k le lt.
@@ -58,5 +58,5 @@ from_groups N t us back h pre front (b ∷ bs) e r =
       subst (λ (i : ℕ). Stands N t us i bs) next (from_groups N t us back h (pre ++ g) rest bs e'' r.5),
     )
 
-pub groups_stand : (N t : ℕ) (front back : List ℕ) (bs : List Entry) → Groups bs front → All (λ u. u + N ≤ t) back → Stands N t (front ++ back) 0 bs
+pub groups_stand : (N t : ℕ) (front back : List ℕ) (bs : List Entry) → Groups bs front → AllByRecursion (λ u. u + N ≤ t) back → Stands N t (front ++ back) 0 bs
 groups_stand N t front back bs r h = from_groups N t (front ++ back) back h [] front bs refl r

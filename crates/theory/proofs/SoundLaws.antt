@@ -1,7 +1,7 @@
 -- Formed and sound buckets as tests and as facts.
 use Rattle.std.proofs.Common.{◌≡◌, ℕ, zero, suc, ◌+◌, ◌<◌, ◌≤◌, Bool, true, ◌&&◌, eqb, ltb, leb, ◌⊎◌, List, [], ◌∷◌, refl, ap, ◌∙◌, inl, inr, arith}
 use Rattle.std.proofs.lemmas.Bool.{and_from, and_parts, cases_eq, cases_lt, eq-eqb, eqb-true, le-leb, leb-true, lt-ltb, ltb-true}
-use Rattle.std.specs.List.{AllByRecursion as All}
+use Rattle.std.specs.List.{AllByRecursion}
 use Rattle.theory.proofs.FormLaws.{one_other}
 use Rattle.theory.proofs.Views.{Begins, Below, Formed, Steps}
 use Rattle.theory.specs.Arrivals.{Falling}
@@ -9,11 +9,11 @@ use Rattle.theory.specs.Buckets.{how_many, stamps, top, top_from}
 use Rattle.theory.specs.Sound.{every, every_below, filled, formed, never_rise, sound_buckets, start_at_zero, step_up}
 use Rattle.theory.specs.declared.entries.Entry.{Entry}
 
-pub every_all : (p : Entry → Bool) (P : Entry → Type 0) → ((b : Entry) → p b ≡ true → P b) → (bs : List Entry) → every p bs ≡ true → All P bs
+pub every_all : (p : Entry → Bool) (P : Entry → Type 0) → ((b : Entry) → p b ≡ true → P b) → (bs : List Entry) → every p bs ≡ true → AllByRecursion P bs
 every_all p P f [] h = tt
 every_all p P f (b ∷ bs) h = let w = and_parts (p b) (every p bs) h in (f b w.0, every_all p P f bs w.1)
 
-pub all_every : (p : Entry → Bool) (P : Entry → Type 0) → ((b : Entry) → P b → p b ≡ true) → (bs : List Entry) → All P bs → every p bs ≡ true
+pub all_every : (p : Entry → Bool) (P : Entry → Type 0) → ((b : Entry) → P b → p b ≡ true) → (bs : List Entry) → AllByRecursion P bs → every p bs ≡ true
 all_every p P f [] h = refl
 all_every p P f (b ∷ bs) h = and_from (p b) (every p bs) (f b h.0) (all_every p P f bs h.1)
 
@@ -126,8 +126,8 @@ formed_from l t bs f b =
 pub record SoundBuckets (l r N t : ℕ) (bs : List Entry) : Type 0 where
   pub form : Formed l bs
   pub arrived : Below t (stamps bs)
-  pub live : All (λ b. t < b.stamp + N) bs
-  pub small : All (λ b. b.exponent ≤ r) bs
+  pub live : AllByRecursion (λ b. t < b.stamp + N) bs
+  pub small : AllByRecursion (λ b. b.exponent ≤ r) bs
 
 pub sound_says : (l r N t : ℕ) (bs : List Entry) → sound_buckets l r N t bs ≡ true → SoundBuckets l r N t bs
 sound_says l r N t bs h =

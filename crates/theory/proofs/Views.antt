@@ -1,12 +1,12 @@
 -- The views in which the proofs are done: buckets by the places of their arrivals, form as facts, dropping by levels.
 use Rattle.std.proofs.Common.{◌≡◌, ℕ, ◌+◌, ◌<◌, ◌≤◌, cond, ltb, leb, List, [], ◌∷◌, length, get_or}
-use Rattle.std.specs.List.{AllByRecursion as All}
+use Rattle.std.specs.List.{AllByRecursion}
 use Rattle.theory.specs.Arrivals.{Falling}
 use Rattle.theory.specs.Buckets.{size, how_many, stamps, top}
 use Rattle.theory.specs.declared.entries.Entry.{Entry}
 
 abbrev pub Below : ℕ → List ℕ → Type 0
-Below s us = All (λ u. u ≤ s) us
+Below s us = AllByRecursion (λ u. u ≤ s) us
 
 -- all arrivals from place p on have expired
 abbrev pub Gone : ℕ → ℕ → List ℕ → ℕ → Type 0

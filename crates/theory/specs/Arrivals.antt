@@ -1,6 +1,6 @@
 -- What buckets stand for. Arrivals are the list of their ticks, newest first.
 use Rattle.std.specs.Prelude.{◌≡◌, ℕ, ◌+◌, ◌-◌, ◌*◌, ◌^◌, ◌<◌, ◌≤◌, true, cond, List, [], ◌∷◌, ◌++◌, length, ◌==◌, nat_lt, slice_index}
-use Rattle.std.specs.List.{AllByRecursion as All}
+use Rattle.std.specs.List.{AllByRecursion}
 use Rattle.theory.specs.Buckets.{size}
 use Rattle.theory.specs.Sound.{formed}
 use Rattle.theory.specs.declared.entries.Entry.{Entry}
@@ -8,7 +8,7 @@ use Rattle.theory.specs.declared.entries.Entry.{Entry}
 -- ticks never rise from one arrival to the one before it
 abbrev pub Falling : List ℕ → Type 0
 Falling [] = Unit {0}
-Falling (u ∷ us) = All (λ s. s ≤ u) us × Falling us
+Falling (u ∷ us) = AllByRecursion (λ s. s ≤ u) us × Falling us
 
 -- the arrivals split into consecutive groups, one for each bucket: 2^exponent of them, the newest at the bucket's stamp
 abbrev pub Groups : List Entry → List ℕ → Type 0
@@ -22,12 +22,12 @@ pub record StandFor (N t : ℕ) (us : List ℕ) (bs : List Entry) : Type 0 where
   pub lost : List ℕ
   pub split : us ≡ covered ++ lost
   pub groups : Groups bs covered
-  pub expired : All (λ u. u + N ≤ t) lost
+  pub expired : AllByRecursion (λ u. u + N ≤ t) lost
 
 -- bs is a histogram, at tick t, of the arrivals us up to that tick
 pub record Keeps (l N t : ℕ) (us : List ℕ) (bs : List Entry) : Type 0 where
   pub falling : Falling us
-  pub arrived : All (λ u. u ≤ t) us
+  pub arrived : AllByRecursion (λ u. u ≤ t) us
   pub formed : formed l t bs ≡ true
   pub stand_for : StandFor N t us bs
 

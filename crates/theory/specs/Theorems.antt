@@ -1,6 +1,6 @@
 -- The theorems about histograms, as the functions in src/theorems.rt promise them.
 use Rattle.std.specs.Prelude.{◌≡◌, ℕ, ◌+◌, ◌-◌, ◌*◌, ◌^◌, ◌<◌, ◌≤◌, true, List, [], ◌∷◌, ◌++◌, length, take, drop, replicate}
-use Rattle.std.specs.List.{AllByRecursion as All}
+use Rattle.std.specs.List.{AllByRecursion}
 use Rattle.theory.specs.Arrivals.{Keeps, truth, at_tick, Brackets, Largest}
 use Rattle.theory.specs.Buckets.{total, insert, insertions, within, low, high, top, closing_figure}
 use Rattle.theory.specs.Levels.{flat, push_all, newer, staying, Canonical}
@@ -38,7 +38,7 @@ FewBuckets = (l N t : ℕ) (us : List ℕ) (bs : List Entry) (keeps : Keeps l N 
 
 -- with at most R arrivals at each tick, and none after a, a window of W ticks has at most W × R
 abbrev pub ArrivalsInWindow : Type 0
-ArrivalsInWindow = (R a : ℕ) (us : List ℕ) → ((s : ℕ) → at_tick s us ≤ R) → All (λ u. u ≤ a) us
+ArrivalsInWindow = (R a : ℕ) (us : List ℕ) → ((s : ℕ) → at_tick s us ≤ R) → AllByRecursion (λ u. u ≤ a) us
     → (W : ℕ) → truth W a us ≤ W * R
 
 -- sound buckets from which the expired ones are dropped are sound

@@ -4,12 +4,12 @@ use Rattle.buckets.specs.Counts.{Taken, board_buckets}
 use Rattle.buckets.specs.Reports.{Small, refused_full, sizes_text}
 use Rattle.std.proofs.lemmas.Result.{IfOk-weaker}
 use Rattle.std.specs.Str.Parse.{digits_value}
-use Rattle.std.specs.List.{AllByRecursion as All}
+use Rattle.std.specs.List.{AllByRecursion}
 use Rattle.theory.specs.declared.entries.Entry.{Entry}
 use Rattle.buckets.proofs.taking.take_count.Goals as goal
 
 pub write-sizes-requires : goal.write-sizes-requires
-write-sizes-requires c = subst (All Small) (sym c.buckets.ensures.value) (buckets_small c.add.new.self)
+write-sizes-requires c = subst (AllByRecursion Small) (sym c.buckets.ensures.value) (buckets_small c.add.new.self)
 
 pub returns-then-add : goal.returns-then-add
 returns-then-add c =

@@ -55,9 +55,9 @@ returns c =
     let many : c.insert-buckets.result ≡ length (buckets_after s was t v xs) = c.insert-buckets.ensures.many ∙ ap length same in
     let laid_out : c.insert-buckets.new.stretch ≡ padded (length xs) (buckets_after s was t v xs) = c.insert-buckets.ensures.after ∙
     ap (padded (length xs)) same in
-    let weight = c.weight-at-weight.ensures.value in
+    let weight = c.weight_at-weight.ensures.value in
     let accepted = not_refused s was t v xs says.0 later fits (omega (arith, weight)) in
-    let is : record { tick = t; weight = c.weight-at-weight.result + v; buckets = c.insert-buckets.result } ≡ record
+    let is : record { tick = t; weight = c.weight_at-weight.result + v; buckets = c.insert-buckets.result } ≡ record
     { tick = t; weight = weight_before was t + v; buckets = length (buckets_after s was t v xs) } = rw (weight, many) refl in
     record {
       value = ap {B = Result Standing EnterFault} (λ (x : Standing). Ok x) is

@@ -14,8 +14,8 @@ returns c =
     let xs = c.args.stretch.now in
     let n : o + c.args.new ≡ o + length (map (of_size e) new) = omega (arith, length-map new (of_size e), length-replicate c.args.new c.args.tick) in
     record {
-      laid = c.put-olds.ensures.laid
-          ∙ ap (λ (z : List Entry). laid (o + c.args.new) (map (of_size e) olds) z) c.put-new.ensures.laid
+      laid = c.put_olds.ensures.laid
+          ∙ ap (λ (z : List Entry). laid (o + c.args.new) (map (of_size e) olds) z) c.put_new.ensures.laid
           ∙ laid_after o (o + c.args.new) (map (of_size e) new) (map (of_size e) olds) xs n (omega arith)
           ∙ ap (λ (z : List Entry). laid o z xs) (sym (map-append (of_size e) new olds));
     }

@@ -16,19 +16,19 @@ returns-then-e-settings c =
           (omega (arith, some)) c.if-e-settings.true (c.loop-rest.invariant.0 t);
     }
 
-pub overflow-add-sizes : goal.overflow-add-sizes
-overflow-add-sizes c =
+pub overflow_add-sizes : goal.overflow_add-sizes
+overflow_add-sizes c =
     let s = c.args.settings.now in
-    let v = c.in-ok-n.ensures.value in
-    let m = summed s.half c.loop-rest.e c.in-ok-n.n c.loop-rest.sizes v.few (omega arith) s.few c.loop-rest.invariant.3 in
+    let v = c.in_ok-n.ensures.value in
+    let m = summed s.half c.loop-rest.e c.in_ok-n.n c.loop-rest.sizes v.few (omega arith) s.few c.loop-rest.invariant.3 in
     omega (arith, m.shifted, m.fits)
 
 pub loop-rest-preserved : goal.loop-rest-preserved
 loop-rest-preserved c =
     let s = c.args.settings.now in
     let rest = c.loop-rest.rest.now in
-    let n = c.in-ok-n.n in
-    let v = c.in-ok-n.ensures.value in
+    let n = c.in_ok-n.n in
+    let v = c.in_ok-n.ensures.value in
     let m = summed s.half c.loop-rest.e n c.loop-rest.sizes v.few (omega arith) s.few c.loop-rest.invariant.3 in
     let sum : total rest ≡ n * 2 ^ c.loop-rest.e + total (drop n rest) =
     ap total (sym (take-append-drop n rest)) ∙ total-append (take n rest) (drop n rest)

@@ -6,15 +6,15 @@ use Rattle.std.specs.Str.Parse.{digits_value}
 use Rattle.theory.specs.Sound.{filled, zero_entry}
 use Rattle.histogram.proofs.levels.level_length.Goals as goal
 
-pub returns-then-not-is-level : goal.returns-then-not-is-level
-returns-then-not-is-level c = record {
+pub returns-then-not-is_level : goal.returns-then-not-is_level
+returns-then-not-is_level c = record {
   value = λ r t.
       let rest = c.args.rest.now in
       let sure = c.min-sure.result in
       let front : levelled c.args.e c.args.last (take sure rest) ≡ true = tail_front c.args.half r c.args.e c.args.last
       rest t sure (omega arith) (omega arith) in
       let z : sure - 0 ≡ sure = omega arith in
-      false≢true (sym c.if-not-is-level.true ∙ c.is-level.ensures.value ∙ ap
+      false≢true (sym c.if-not-is_level.true ∙ c.is_level.ensures.value ∙ ap
       (λ (n : ℕ). levelled c.args.e c.args.last (take n rest)) z ∙ front);
 }
 
@@ -30,7 +30,7 @@ returns-then-next-e c =
     let sure = c.min-sure.result in
     let z : sure ≡ sure - 0 = omega arith in
     let front : levelled c.args.e c.args.last (take sure rest) ≡ true =
-    ap (λ (n : ℕ). levelled c.args.e c.args.last (take n rest)) z ∙ sym c.is-level.ensures.value ∙ c.if-not-is-level.false in
+    ap (λ (n : ℕ). levelled c.args.e c.args.last (take n rest)) z ∙ sym c.is_level.ensures.value ∙ c.if-not-is_level.false in
     record {
       value = record {
         level = level_more c.args.e c.args.last sure rest zero_entry front (omega arith) (omega arith) c.if-next-e.true

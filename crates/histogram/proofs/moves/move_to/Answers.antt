@@ -4,6 +4,6 @@ use Rattle.histogram.proofs.moves.move_to.Goals as goal
 
 pub returns : goal.returns
 returns c = record {
-  moved = c.copy-within.ensures.after ∙ copied c.args.stretch.now c.args.o c.args.i c.args.b
+  moved = c.copy_within.ensures.after ∙ copied c.args.stretch.now c.args.o c.args.i c.args.b
       c.requires.places.0 c.requires.places.1.0;
 }

@@ -7,14 +7,14 @@ use Rattle.std.specs.Str.Parse.{digits_value}
 use Rattle.theory.specs.Sound.{zero_entry}
 use Rattle.histogram.proofs.surveys.oldest_lives.Goals as goal
 
-pub returns-then-is-empty : goal.returns-then-is-empty
-returns-then-is-empty c =
+pub returns-then-is_empty : goal.returns-then-is_empty
+returns-then-is_empty c =
     let bs = c.args.buckets.now in
-    let over : bs ≡ [] = nil_from_length bs (eqb-true (length bs) 0 (sym c.if-is-empty.ensures)) in
-    record { value = c.if-is-empty.true ∙ sym (ap (lives c.args.window c.args.own) over) }
+    let over : bs ≡ [] = nil_from_length bs (eqb-true (length bs) 0 (sym c.if-is_empty.ensures)) in
+    record { value = c.if-is_empty.true ∙ sym (ap (lives c.args.window c.args.own) over) }
 
-pub returns-else-is-empty : goal.returns-else-is-empty
-returns-else-is-empty c =
+pub returns-else-is_empty : goal.returns-else-is_empty
+returns-else-is_empty c =
     let bs = c.args.buckets.now in
-    let some = eqb-false (length bs) 0 (sym c.if-is-empty.ensures) in
-    record { value = c.in-window.ensures.value ∙ sym (lives_at c.args.window c.args.own bs zero_entry (omega (arith, some))) }
+    let some = eqb-false (length bs) 0 (sym c.if-is_empty.ensures) in
+    record { value = c.in_window.ensures.value ∙ sym (lives_at c.args.window c.args.own bs zero_entry (omega (arith, some))) }

@@ -6,8 +6,8 @@ use Rattle.std.specs.Str.Parse.{digits_value}
 use Rattle.theory.specs.Sound.{zero_entry}
 use Rattle.histogram.proofs.surveys.oldest_size.Goals as goal
 
-pub overflow-shl-result : goal.overflow-shl-result
-overflow-shl-result c = omega (arith, All-get_or (λ b. b.exponent ≤ 30) c.args.buckets.now (c.args.n - 1) zero_entry (omega arith) c.requires.small)
+pub overflow_shl-result : goal.overflow_shl-result
+overflow_shl-result c = omega (arith, All-get_or (λ b. b.exponent ≤ 30) c.args.buckets.now (c.args.n - 1) zero_entry (omega arith) c.requires.small)
 
 pub returns-else-n-eq0 : goal.returns-else-n-eq0
 returns-else-n-eq0 c =

@@ -9,7 +9,7 @@ use Rattle.std.specs.Str.Parse.{digits_value}
 use Rattle.theory.specs.Buckets.{oldest, total, within}
 use Rattle.theory.specs.Sound.{zero_entry}
 use Rattle.histogram.proofs.surveys.windowed.Goals as goal
-use Rattle.histogram.proofs.surveys.windowed.Goals.{then-loop-n-test+else-not-in-window, else-loop-n-test}
+use Rattle.histogram.proofs.surveys.windowed.Goals.{then-loop-n-test+else-not-in_window, else-loop-n-test}
 
 pub loop-n-init : goal.loop-n-init
 loop-n-init c =
@@ -17,11 +17,11 @@ loop-n-init c =
     let all = take_all (length bs) bs (omega arith) in
     (ap (within c.args.window c.args.at) all, c.requires.sum ∙ ap total (sym all), omega arith)
 
-pub overflow-shl-left : goal.overflow-shl-left
-overflow-shl-left c = omega (arith, All-get_or (λ b. b.exponent ≤ 30) c.args.buckets.now (c.loop-n.n - 1) zero_entry (omega arith) c.requires.small)
+pub overflow_shl-left : goal.overflow_shl-left
+overflow_shl-left c = omega (arith, All-get_or (λ b. b.exponent ≤ 30) c.args.buckets.now (c.loop-n.n - 1) zero_entry (omega arith) c.requires.small)
 
-pub overflow-sub-left : goal.overflow-sub-left
-overflow-sub-left c =
+pub overflow_sub-left : goal.overflow_sub-left
+overflow_sub-left c =
     let bs = c.args.buckets.now in
     let small : (get_or bs (c.loop-n.n - 1) zero_entry).exponent ≤ 30 = All-get_or (λ b. b.exponent ≤ 30) bs (c.loop-n.n - 1) zero_entry
     (omega arith) c.requires.small in
@@ -38,7 +38,7 @@ loop-n-preserved c =
     let bs = c.args.buckets.now in
     let n = c.loop-n.n in
     let small : (get_or bs (n - 1) zero_entry).exponent ≤ 30 = All-get_or (λ b. b.exponent ≤ 30) bs (n - 1) zero_entry (omega arith) c.requires.small in (
-      drop-last c.args.window c.args.at bs n zero_entry (omega arith) (omega arith) (sym c.if-not-in-window.ensures.value) ∙
+      drop-last c.args.window c.args.at bs n zero_entry (omega arith) (omega arith) (sym c.if-not-in_window.ensures.value) ∙
           c.loop-n.invariant.0,
       omega (
         arith,
@@ -55,13 +55,13 @@ returns c =
     let n = c.loop-n.n in
     let live : 0 < n → c.args.at < (get_or bs (n - 1) zero_entry).stamp + c.args.window =
     elim c.loop-n-test.branch [
-      | then-loop-n-test+else-not-in-window w ↦ λ _. ltb-true c.args.at ((get_or bs (n - 1) zero_entry).stamp + c.args.window)
-          (sym w.if-not-in-window.ensures.value)
+      | then-loop-n-test+else-not-in_window w ↦ λ _. ltb-true c.args.at ((get_or bs (n - 1) zero_entry).stamp + c.args.window)
+          (sym w.if-not-in_window.ensures.value)
       | else-loop-n-test w ↦ λ h. absurd (omega (arith, w.loop-n-test.false, h))
     ] in
     let front : take n bs ≡ within c.args.window c.args.at bs = sym
     (front_within c.args.window c.args.at bs n zero_entry c.requires.falling c.loop-n.invariant.2 live) ∙ c.loop-n.invariant.0 in
     let many : n ≡ length (take n bs) = sym (length-take-le n bs c.loop-n.invariant.2) in
-    let all : record { buckets = n; sizes = c.loop-n.left; oldest = c.oldest-size.result } ≡ told (take n bs) =
-    rw (← many, c.loop-n.invariant.1, c.oldest-size.ensures.value) refl in
+    let all : record { buckets = n; sizes = c.loop-n.left; oldest = c.oldest_size.result } ≡ told (take n bs) =
+    rw (← many, c.loop-n.invariant.1, c.oldest_size.ensures.value) refl in
     record { value = all ∙ ap told front }

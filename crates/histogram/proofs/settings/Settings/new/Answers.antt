@@ -4,37 +4,16 @@ use Rattle.std.specs.Str.Parse.{digits_value}
 use Rattle.theory.proofs.Views.{cap}
 use Rattle.histogram.proofs.settings.Settings.new.Goals as goal
 
-pub exponent-for-top-requires : goal.exponent-for-top-requires
-exponent-for-top-requires c =
+pub exponent_for-top-requires : goal.exponent_for-top-requires
+exponent_for-top-requires c =
     record { some = (omega arith, (product c.args.window c.args.cap (omega arith) (omega arith) (omega arith) (omega arith)).0) }
 
-pub overflow-cast-top : goal.overflow-cast-top
-overflow-cast-top c =
+pub overflow_cast-top : goal.overflow_cast-top
+overflow_cast-top c =
     let p = product c.args.window c.args.cap (omega arith) (omega arith) (omega arith) (omega arith) in
-    omega (arith, at_most_30 (c.args.k / 2) (c.args.window * c.args.cap) c.exponent-for-top.result (omega arith) p.1 c.exponent-for-top.ensures.value.below)
+    omega (arith, at_most_30 (c.args.k / 2) (c.args.window * c.args.cap) c.exponent_for-top.result (omega arith) p.1 c.exponent_for-top.ensures.value.below)
 
-pub invariant-of-result : goal.invariant-of-result
-invariant-of-result c =
+pub invariant_of-result : goal.invariant_of-result
+invariant_of-result c =
     let p = product c.args.window c.args.cap (omega arith) (omega arith) (omega arith) (omega arith) in
-    let e = c.exponent-for-top.ensures in (
-      omega arith,
-      (
-        omega arith,
-        (
-          omega arith,
-          (
-            omega arith,
-            (
-              omega arith,
-              (
-                omega arith,
-                (
-                  at_most_30 (c.args.k / 2) (c.args.window * c.args.cap) c.exponent-for-top.result (omega arith) p.1 e.value.below,
-                  (e.value.below, (e.next, tt)),
-                ),
-              ),
-            ),
-          ),
-        ),
-      ),
-    )
+    let e = c.exponent_for-top.ensures in record { some = omega arith; few = omega arith; opens = omega arith; closes = omega arith; takes = omega arith; fills = omega arith; small = at_most_30 (c.args.k / 2) (c.args.window * c.args.cap) c.exponent_for-top.result (omega arith) p.1 e.value.below; below = e.value.below; last = e.next }
