@@ -14,13 +14,16 @@ TOP = sys.argv[1] if len(sys.argv) > 1 else os.path.dirname(os.path.dirname(os.p
 for folder, dirs, files in os.walk(os.path.join(TOP, "crates")):
     dirs[:] = sorted(d for d in dirs if d != "out")
     for name in sorted(files):
-        if name.endswith(".antt"):
+        if name.endswith((".antt", ".rt")):
             path = os.path.join(folder, name)
             with open(path, encoding="utf-8") as f:
                 text = f.read()
             if "AllByRecursion as All" in text:
                 text = text.replace("AllByRecursion as All", "AllByRecursion")
-                text = re.sub(r"(?<![\w'.-])All(?![\w'-])", "AllByRecursion", text)
+                # A source file's comments stay.
+                parts = re.split(r"(//[^\n]*)", text) if name.endswith(".rt") else [text]
+                parts[::2] = [re.sub(r"(?<![\w'.-])All(?![\w'-])", "AllByRecursion", part) for part in parts[::2]]
+                text = "".join(parts)
                 with open(path, "w", encoding="utf-8") as f:
                     f.write(text)
                 print(path)

@@ -1,6 +1,6 @@
 //! One pass over a stretch: whether it is sound, and what it tells of a window.
 ghost use Rattle.std.specs.Prelude.{◌≡◌, ◌+◌, ◌≤◌, length, take, nat_lt};
-ghost use Rattle.std.specs.List.{AllByRecursion as All};
+ghost use Rattle.std.specs.List.{AllByRecursion};
 ghost use Rattle.theory.specs.Arrivals.{Falling};
 ghost use Rattle.theory.specs.Buckets.{total, within, stamps, oldest};
 ghost use Rattle.histogram.specs.Surveys.{lives, told, surveyed};
@@ -42,7 +42,7 @@ fn oldest_lives(buckets: &[Entry], window: u64, own: u64) -> bool
 /// The size of the oldest of the first `n` buckets.
 fn oldest_size(buckets: &[Entry], n: usize) -> u64
     requires place { n ≤ length buckets.now }
-    requires small { All (λ b. b.exponent ≤ 30) buckets.now }
+    requires small { AllByRecursion (λ b. b.exponent ≤ 30) buckets.now }
     ensures value { result ≡ oldest 0 (take n buckets.now) }
 {
     if n == 0 {
@@ -55,7 +55,7 @@ fn oldest_size(buckets: &[Entry], n: usize) -> u64
 /// Of buckets with `sizes` in all, those in the window `window` at `at`. Those outside it are the last.
 fn windowed(buckets: &[Entry], sizes: u64, window: u64, at: u64) -> Survey
     requires falling { Falling (stamps buckets.now) }
-    requires small { All (λ b. b.exponent ≤ 30) buckets.now }
+    requires small { AllByRecursion (λ b. b.exponent ≤ 30) buckets.now }
     requires sum { sizes ≡ total buckets.now }
     ensures value { result ≡ told (within window at buckets.now) }
 {

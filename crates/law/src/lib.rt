@@ -3,6 +3,7 @@
 //! Here are the shape of a programme, the six calls as values, their answers and refusals. `specs/` says what each call
 //! means and what a history of calls tells of a track. [`law_over_runs`] has no code: what it promises is proved of those
 //! definitions, for every counting rule.
+#![tactic(auto)]
 mod faults;
 mod kinds;
 mod limits;

@@ -3,6 +3,7 @@
 //! A line ends before byte 10, which is not part of it. What stands after the last byte 10 is a line too, if it has at
 //! least one byte. A caller goes through a piece line by line: up to the line's length it extends the line that it
 //! holds, and where the piece goes on, the line has ended there, and the next begins after its byte 10.
+#![tactic(auto)]
 ghost use Rattle.std.specs.Prelude.{◌≡◌, ◌≤◌, [], ◌++◌, length, take, ◌==◌};
 ghost use Rattle.lines.specs.Held.{held};
 ghost use Rattle.lines.specs.Lines.{line_length};
@@ -84,9 +85,9 @@ mod tests {
         let mut line = HeldLine::<5>::new();
         line.extend(b"su");
         line.extend(b"bt");
-        assert_eq!(rt; line.bytes(), b"subt");
+        assert_eq!(rt; line.bytes(), b"subt".as_slice());
         line.extend(b"itle");
-        assert_eq!(rt; line.bytes(), b"subti", "five bytes are kept");
+        assert_eq!(rt; line.bytes(), b"subti".as_slice(), "five bytes are kept");
         line.clear();
         assert!(rt; line.is_empty());
     }

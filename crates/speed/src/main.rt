@@ -1,6 +1,7 @@
 //! How long a line takes: the soundness test and the insertion of its characters, in a stretch of 200 entries.
 //!
 //! What was done goes to standard output, the times to standard error, so that the output is the same on every machine.
+#![tactic(auto)]
 use histogram::{Entry, NO_BUCKET, Settings, Standing, enter};
 use std::io;
 

@@ -44,7 +44,8 @@ fn report_weights(out: &mut String, number: u64, weights: Weights) -> fmt::Resul
     ensures { OnOk result (string_bytes out.new ≡ string_bytes out.old ++ weights_text number weights) }
 {
     let Weights { counting, free } = weights;
-    writeln!(out, "{number}: {counting} with blanks, {free} without")
+    writeln!(out, "{number}: {counting} with blanks, {free} without")?;
+    Ok(())
 }
 
 fn report_refusal(out: &mut String, number: u64, fault: TextFault) -> fmt::Result
@@ -52,7 +53,8 @@ fn report_refusal(out: &mut String, number: u64, fault: TextFault) -> fmt::Resul
 {
     let refusal = fault.number();
     let place = fault.place();
-    writeln!(out, "{number}: refused {refusal} at {place}")
+    writeln!(out, "{number}: refused {refusal} at {place}")?;
+    Ok(())
 }
 
 impl Tally {
@@ -102,6 +104,7 @@ impl Tally {
         writeln!(
             out,
             "weighed {weighed} lines: {counting} with blanks, {free} without; {refused} refused"
-        )
+        )?;
+        Ok(())
     }
 }

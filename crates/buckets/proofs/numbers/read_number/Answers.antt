@@ -4,9 +4,9 @@ use Rattle.buckets.proofs.numbers.read_number.Goals as goal
 use Rattle.buckets.proofs.numbers.read_number.Goals.{then-number-most-via-then-number-most, then-number-most-via-else-number-most+then-digit-most}
 use Rattle.std.proofs.lemmas.Bool.{eqb-true, eqb-false}
 
-pub returns-then-is-empty : goal.returns-then-is-empty
-returns-then-is-empty c =
-    refused_empty c.args.line.now c.args.most c.ranges.most.fits (eqb-true _ 0 (sym c.is-empty.ensures ∙ c.if-is-empty.true))
+pub returns-then-is_empty : goal.returns-then-is_empty
+returns-then-is_empty c =
+    refused_empty c.args.line.now c.args.most c.ranges.most.fits (eqb-true _ 0 (sym c.is_empty.ensures ∙ c.if-is_empty.true))
 
 pub returns-then-line-gt1 : goal.returns-then-line-gt1
 returns-then-line-gt1 c = refused_zero c.args.line.now c.args.most c.ranges.most.fits (omega arith) (omega arith)
@@ -31,6 +31,6 @@ loop-byte-preserved c =
 
 pub returns : goal.returns
 returns c =
-    let some = eqb-false (length c.args.line.now) 0 (sym c.is-empty.ensures ∙ c.if-is-empty.false) in
+    let some = eqb-false (length c.args.line.now) 0 (sym c.is_empty.ensures ∙ c.if-is_empty.false) in
     begun_all c.args.line.now c.args.most c.ranges.most.fits c.loop-byte.byte-index c.loop-byte.number c.loop-byte.invariant
     (omega arith) (omega arith) (λ zero. omega arith)

@@ -8,33 +8,33 @@ use Rattle.std.specs.List.{AllByRecursion}
 use Rattle.theory.specs.declared.entries.Entry.{Entry}
 use Rattle.buckets.proofs.taking.take_count.Goals as goal
 
-pub write-sizes-requires : goal.write-sizes-requires
-write-sizes-requires c = subst (AllByRecursion Small) (sym c.buckets.ensures.value) (buckets_small c.add.new.self)
+pub write_sizes-requires : goal.write_sizes-requires
+write_sizes-requires c = subst (AllByRecursion Small) (sym c.buckets.ensures.value) (buckets_small c.add.new.self)
 
 pub returns-then-add : goal.returns-then-add
 returns-then-add c =
     let b' = c.add.new.self in
     record {
-      taken = IfOk-weaker c.write-sizes.result _ _
+      taken = IfOk-weaker c.write_sizes.result _ _
           (λ _ p. (
             sizes_text (board_buckets b'),
             p ∙ ap (λ (bs : List Entry). string_bytes c.args.out.now ++ sizes_text bs) c.buckets.ensures.value,
             subst (Taken c.args.at c.args.board.now b' (sizes_text (board_buckets b'))) c.in-Some.ensures.value
                 (inl (c.if-add.ensures.after, refl)),
           ))
-          c.write-sizes.ensures;
+          c.write_sizes.ensures;
     }
 
 pub returns-else-add : goal.returns-else-add
 returns-else-add c =
     let b' = c.add.new.self in
     record {
-      taken = IfOk-weaker c.refuse-full.result _ _
+      taken = IfOk-weaker c.refuse_full.result _ _
           (λ _ p. (
             refused_full c.args.at,
             p,
             subst (Taken c.args.at c.args.board.now b' (refused_full c.args.at)) c.in-Some.ensures.value
                 (inr (c.if-add.ensures.after, refl)),
           ))
-          c.refuse-full.ensures;
+          c.refuse_full.ensures;
     }

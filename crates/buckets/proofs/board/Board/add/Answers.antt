@@ -6,36 +6,27 @@ use Rattle.theory.proofs.Views.{cap, kept}
 use Rattle.theory.specs.Buckets.{total}
 use Rattle.buckets.proofs.board.Board.add.Goals as goal
 
-pub invariant-of-self : goal.invariant-of-self
-invariant-of-self c =
+pub invariant_of-self : goal.invariant_of-self
+invariant_of-self c =
     let b = c.args.self.now in
-    let left = c.if-tick-eq-LONGEST-WINDOW.false in
+    let left = c.if-tick-eq-LONGEST_WINDOW.false in
     let e = c.in-Ok.ensures in
     let is = next b c.args.count c.requires.small left (Ok c.in-Ok.standing) e.value in
-    let buckets = next_buckets b c.args.count c.requires.small left c.in-Ok.standing.buckets c.enter.new.stretch is.1 e.after in (
-      b.window,
-      (
-        b.cap,
-        (
-          omega (arith, is.0, left, b.ticks),
-          (
-            omega (arith, is.0, b.counts, c.requires.small),
-            (
-              c.enter.auto.stretch ∙ b.whole,
-              (
-                e.keeps.0,
-                (ap total buckets ∙ new_total b c.args.count c.requires.small left, tt),
-              ),
-            ),
-          ),
-        ),
-      ),
-    )
+    let buckets = next_buckets b c.args.count c.requires.small left c.in-Ok.standing.buckets c.enter.new.stretch is.1 e.after in
+    record {
+      window = b.window;
+      cap = b.cap;
+      ticks = omega (arith, is.0, left, b.ticks);
+      counts = omega (arith, is.0, b.counts, c.requires.small);
+      whole = c.enter.auto.stretch ∙ b.whole;
+      sound = e.keeps.0;
+      sum = ap total buckets ∙ new_total b c.args.count c.requires.small left;
+    }
 
 pub returns-in-Ok : goal.returns-in-Ok
 returns-in-Ok c =
     let b = c.args.self.now in
-    let left = c.if-tick-eq-LONGEST-WINDOW.false in
+    let left = c.if-tick-eq-LONGEST_WINDOW.false in
     let e = c.in-Ok.ensures in
     let is = next b c.args.count c.requires.small left (Ok c.in-Ok.standing) e.value in
     record {
@@ -51,6 +42,6 @@ returns-in-Ok c =
 pub returns-in-Err : goal.returns-in-Err
 returns-in-Err c =
     record {
-      after = absurd (next c.args.self.now c.args.count c.requires.small c.if-tick-eq-LONGEST-WINDOW.false
+      after = absurd (next c.args.self.now c.args.count c.requires.small c.if-tick-eq-LONGEST_WINDOW.false
           (Err c.in-Err.field-0) c.in-Err.ensures.value);
     }

@@ -5,24 +5,15 @@ use Rattle.std.specs.Str.Parse.{digits_value}
 use Rattle.theory.specs.Sound.{zero_entry}
 use Rattle.buckets.proofs.board.Board.new.Goals as goal
 
-pub invariant-of-result : goal.invariant-of-result
-invariant-of-result c =
-    let m = c.in-Ok.ensures.value in (
-      sym m.1,
-      (
-        sym m.2,
-        (
-          omega arith,
-          (
-            omega arith,
-            (
-              length-replicate 460 zero_entry,
-              (
-                empty_sound c.in-Ok.settings (replicate 460 zero_entry) (sym m.1) (sym m.2) refl refl,
-                (refl, tt),
-              ),
-            ),
-          ),
-        ),
-      ),
-    )
+pub invariant_of-result : goal.invariant_of-result
+invariant_of-result c =
+    let m = c.in-Ok.ensures.value in
+    record {
+      window = sym m.1;
+      cap = sym m.2;
+      ticks = omega arith;
+      counts = omega arith;
+      whole = length-replicate 460 zero_entry;
+      sound = empty_sound c.in-Ok.settings (replicate 460 zero_entry) (sym m.1) (sym m.2) refl refl;
+      sum = refl;
+    }
