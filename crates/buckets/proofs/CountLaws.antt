@@ -16,8 +16,7 @@ use Rattle.std.proofs.lemmas.Bool.{cases_lt, cond-true, lt-ltb}
 use Rattle.std.specs.List.{AllByRecursion}
 use Rattle.theory.proofs.FullLaws.{batch_of, within_all}
 use Rattle.theory.proofs.SoundLaws.{sound_says}
-use Rattle.theory.proofs.Views.{cap}
-use Rattle.theory.specs.Buckets.{closing_figure, insertions, top, total}
+use Rattle.theory.specs.Buckets.{closing_figure, insertions, total}
 use Rattle.theory.specs.Sound.{every, formed, is_zero, sound, zeros}
 use Rattle.theory.specs.declared.entries.Entry.{Entry}
 

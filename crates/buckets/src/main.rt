@@ -3,6 +3,7 @@
 //! The first line of standard input is k, each line after it a count of arrivals. After each count the sizes of the buckets
 //! are printed, from the oldest to the newest, and at the end how many arrivals stand in how many buckets.
 #![tactic(auto)]
+
 mod board;
 mod counts;
 mod numbers;

@@ -3,6 +3,7 @@
 //! It stands for a rule that a customer writes: the crate knows the trait of `text` and nothing of the three supplied
 //! rules, and proves by itself that the rule keeps the terms.
 #![tactic(auto)]
+
 ghost use Rattle.festival.specs.Wide.{wide_twice, wide_blocks, in_blocks};
 ghost use Rattle.std.specs.Prelude.{nat_le, refl};
 ghost use Rattle.festival.specs.WideTwiceRuleLemmas.{at_most_two, none_above};

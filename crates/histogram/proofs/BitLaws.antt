@@ -3,7 +3,6 @@ use Rattle.std.proofs.Common.{◌≡◌, ℕ, zero, suc, ◌/◌, ◌%◌, ◌^�
 use native.Mathlib.Nat.{two-pow-succ}
 use lib.Bits.{bit_or}
 use Rattle.std.proofs.lemmas.Nat.{or_comm, or_mod, or_shr}
-use Rattle.theory.specs.Buckets.{high, low}
 
 -- of two bits whose disjunction is 0, the first is 0
 bit_zero : (a b : ℕ) → a < 2 → b < 2 → bit_or a b ≡ 0 → a ≡ 0

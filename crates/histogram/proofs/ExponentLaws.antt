@@ -3,7 +3,6 @@ use Rattle.std.proofs.Common.{◌≡◌, ℕ, suc, ◌+◌, ◌-◌, ◌*◌, �
 use lib.Count.{leading_top, count_leading_zeros}
 use Rattle.std.proofs.lemmas.Bool.{cases_lt}
 use Rattle.theory.specs.Arrivals.{Largest}
-use Rattle.theory.specs.Buckets.{top}
 
 -- r, where l × (2^r − 1) is below m and l × (2^(r + 1) − 1) is not
 pub largest-between : (l m r : ℕ) → l * (2 ^ r - 1) < m → m ≤ l * (2 ^ (r + 1) - 1) → Largest l m r

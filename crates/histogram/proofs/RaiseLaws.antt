@@ -2,7 +2,6 @@
 use Rattle.std.proofs.Common.{◌≡◌, ℕ, suc, ◌+◌, ◌-◌, ◌*◌, ◌/◌, ◌%◌, ◌<◌, ◌≤◌, min, eqb, List, [], ◌∷◌, ◌++◌, map, length, take, drop, replicate, sym, refl, ap, ◌∙◌, ap₂, arith}
 use Rattle.histogram.proofs.LaidLaws.{laid-under, length-newer_is}
 use Rattle.histogram.specs.Raising.{Ready, incoming, laid, of_size, own_of, raised}
-use Rattle.histogram.specs.Settings.{room}
 use Rattle.std.proofs.lemmas.List.{drop-drop, length-append, length-drop, length-map, length-replicate, length-take, length-take-le, nil_from_length, take-take}
 use Rattle.std.proofs.lemmas.Slice.{between_is}
 use Rattle.std.proofs.lemmas.Bool.{cond-false, cond-true, eq-eqb, ne_eqb}

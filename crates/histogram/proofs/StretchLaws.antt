@@ -17,7 +17,7 @@ use Rattle.theory.proofs.LevelLaws.{levels_of}
 use Rattle.theory.proofs.SoundLaws.{formed_from, formed_says, rise_says, sound_from, sound_says}
 use Rattle.theory.proofs.Views.{Formed}
 use Rattle.theory.specs.Arrivals.{Falling}
-use Rattle.theory.specs.Buckets.{high, low, stamps, top, within}
+use Rattle.theory.specs.Buckets.{high, low, stamps, within}
 use Rattle.theory.specs.Levels.{Canonical, flat, row}
 use Rattle.theory.specs.Sound.{every, filled, formed, is_zero, never_rise, sound, sound_buckets, start_at_zero}
 use Rattle.theory.specs.declared.entries.Entry.{Entry}

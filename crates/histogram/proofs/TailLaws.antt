@@ -9,7 +9,7 @@ use Rattle.std.proofs.lemmas.Bool.{and_from, and_left, and_parts, and_right, cas
 use Rattle.theory.proofs.TopLaws.{length-row}
 use Rattle.theory.specs.Buckets.{stamps, total}
 use Rattle.theory.specs.Levels.{Canonical, Filled, flat, row}
-use Rattle.theory.specs.Sound.{filled, never_rise, zero_entry}
+use Rattle.theory.specs.Sound.{never_rise, zero_entry}
 use Rattle.theory.specs.declared.entries.Entry.{Entry}
 
 -- one bucket of a level

@@ -4,6 +4,7 @@
 //! window holds at least and at most, [`is_sound`] tells a stretch that insertion can have left from any other, and
 //! [`clear`] empties one. [`Settings`] say how fine the histogram is and how long its longest window.
 #![tactic(auto)]
+
 mod counting;
 mod entering;
 mod exponent;

@@ -4,6 +4,7 @@
 //! least one byte. A caller goes through a piece line by line: up to the line's length it extends the line that it
 //! holds, and where the piece goes on, the line has ended there, and the next begins after its byte 10.
 #![tactic(auto)]
+
 ghost use Rattle.std.specs.Prelude.{◌≡◌, ◌≤◌, [], ◌++◌, length, take, ◌==◌};
 ghost use Rattle.lines.specs.Held.{held};
 ghost use Rattle.lines.specs.Lines.{line_length};

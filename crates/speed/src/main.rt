@@ -2,6 +2,7 @@
 //!
 //! What was done goes to standard output, the times to standard error, so that the output is the same on every machine.
 #![tactic(auto)]
+
 use histogram::{Entry, NO_BUCKET, Settings, Standing, enter};
 use std::io;
 

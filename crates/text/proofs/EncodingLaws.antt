@@ -1,6 +1,5 @@
 -- Laws of the encoding: the bytes of each length, what a text begins with, and that the language's library agrees.
 use Rattle.std.proofs.Common.{◌≡◌, ℕ, ◌+◌, ◌-◌, ◌*◌, ◌/◌, ◌%◌, ◌<◌, ◌≤◌, ◌⊎◌, List, [], ◌∷◌, ◌++◌, length, get_or, drop, Ok, Err, Result, sym, refl, ap, ◌∙◌, subst, inl, inr, ⊎_elim, arith}
-use lib.Utf8 as library
 use Rattle.std.proofs.lemmas.Bool.{cond-true, cond-false, le-leb, lt-leb, cases_lt}
 use Rattle.text.specs.Characters.{Begins, Reads, ReadsExactly, OneBegins}
 use Rattle.text.specs.Encoding.{later, encode}

@@ -3,6 +3,7 @@
 //! A text is at most 240 bytes of UTF-8. [`read_char`] reads the character that begins one, [`check_text`] says
 //! whether a whole text passes, and [`weigh_text`] adds up what a [`CountingRule`] weighs its characters.
 #![tactic(auto)]
+
 mod blanks;
 mod characters;
 mod faults;

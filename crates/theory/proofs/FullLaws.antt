@@ -5,13 +5,13 @@ use Rattle.std.proofs.lemmas.List.{append-nil, length-replicate}
 use Rattle.std.proofs.lemmas.Bool.{cases_lt, cond_both, cond-true, eqb-false, lt-ltb, ltb-false, ltb-true}
 use Rattle.std.specs.List.{AllByRecursion}
 use Rattle.theory.proofs.BracketLaws.{error_bound}
-use Rattle.theory.proofs.GroupLaws.{groups, groups_stand}
+use Rattle.theory.proofs.GroupLaws.{groups_stand}
 use Rattle.theory.proofs.KeepLaws.{at_levels, dropping_keeps, good_from, good_inserts, insertions_by_levels, insertions_keep, own_below, own_fall, own_keeps, own_arrivals}
 use Rattle.theory.proofs.PushLaws.{all_canon}
 use Rattle.theory.proofs.SizeLaws.{all_total, few_levels, high_total, last_flat, last_row, low_total}
 use Rattle.theory.proofs.SoundLaws.{formed_says, sound_from, sound_says}
 use Rattle.theory.proofs.TopLaws.{count_bound, length-flat, top-flat, top-row_from}
-use Rattle.theory.proofs.Views.{Below, Formed, Stands, kept}
+use Rattle.theory.proofs.Views.{Below, Formed, Stands}
 use Rattle.theory.specs.Arrivals.{Falling, Keeps, Largest, at_tick, truth}
 use Rattle.theory.specs.Buckets.{insertions, low, closing_figure, oldest, size, stamps, top, top_from, total, within}
 use Rattle.theory.specs.Levels.{Canonical, flat, push_all, row}

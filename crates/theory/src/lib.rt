@@ -4,6 +4,7 @@
 //! for 2^e arrivals that came one after another, and has the tick of the newest as its stamp. `specs/` defines what is
 //! done with buckets. The functions here have no code: what they promise is proved of those definitions.
 #![tactic(auto)]
+
 mod entries;
 mod theorems;
 

@@ -3,6 +3,7 @@
 //! A line ends at byte 10, and what follows the last one is a line too if it has a byte. The reports of the lines that
 //! end in what was read are printed before more is read, in memory that does not grow with the input.
 #![tactic(auto)]
+
 mod pieces;
 mod reports;
 

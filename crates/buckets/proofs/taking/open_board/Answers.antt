@@ -1,1 +1,0 @@
-use Rattle.buckets.proofs.taking.open_board.Goals as goal

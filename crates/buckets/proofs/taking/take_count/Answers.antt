@@ -3,7 +3,6 @@ use Rattle.buckets.proofs.CountLaws.{buckets_small}
 use Rattle.buckets.specs.Counts.{Taken, board_buckets}
 use Rattle.buckets.specs.Reports.{Small, refused_full, sizes_text}
 use Rattle.std.proofs.lemmas.Result.{IfOk-weaker}
-use Rattle.std.specs.Str.Parse.{digits_value}
 use Rattle.std.specs.List.{AllByRecursion}
 use Rattle.theory.specs.declared.entries.Entry.{Entry}
 use Rattle.buckets.proofs.taking.take_count.Goals as goal

@@ -2,7 +2,6 @@ use Rattle.std.proofs.Common.{◌≡◌, ◌+◌, ◌-◌, List, length, take, S
 use Rattle.histogram.proofs.StretchLaws.{figures_are, surveyed_says}
 use Rattle.histogram.proofs.SurveyLaws.{low_none, low_some, oldest_le, oldest-some}
 use Rattle.histogram.specs.declared.surveys.Survey.{Survey}
-use Rattle.std.specs.Str.Parse.{digits_value}
 use Rattle.theory.specs.Buckets.{high, low, oldest, total, within}
 use Rattle.theory.specs.declared.entries.Entry.{Entry}
 use Rattle.histogram.proofs.counting.count.Goals as goal

@@ -2,14 +2,11 @@ use Rattle.std.proofs.Common.{◌≡◌, ℕ, ◌+◌, ◌≤◌, length, take, 
 use Rattle.histogram.proofs.EnterLaws.{enter_past, enter_places, entered_keeps, entered-sound, kept_formed, kept_inside, kept_is, not_refused}
 use Rattle.histogram.proofs.StretchLaws.{surveyed_says}
 use Rattle.histogram.specs.Entering.{buckets_after, changed, kept_at, padded, unless, weight_before}
-use Rattle.histogram.specs.Settings.{room}
 use Rattle.histogram.specs.declared.entering.EnterFault.{EnterFault}
 use Rattle.histogram.specs.declared.surveys.Survey.{Survey}
 use Rattle.histogram.specs.declared.track.Standing.{Standing}
 use Rattle.std.proofs.lemmas.Bool.{leb-true}
-use Rattle.std.specs.Str.Parse.{digits_value}
-use Rattle.theory.proofs.Views.{kept}
-use Rattle.theory.specs.Buckets.{closing_figure, insertions, top, total}
+use Rattle.theory.specs.Buckets.{closing_figure, insertions, total}
 use Rattle.theory.specs.Sound.{formed}
 use Rattle.histogram.proofs.entering.enter.Goals as goal
 

@@ -1,8 +1,6 @@
 use Rattle.std.proofs.Common.{◌+◌, ◌-◌, ◌/◌, arith}
 use lib.Count.{count_leading_zeros}
 use Rattle.histogram.proofs.ExponentLaws.{largest-between, sides}
-use Rattle.std.specs.Str.Parse.{digits_value}
-use Rattle.theory.specs.Buckets.{high, low}
 use Rattle.histogram.proofs.exponent.exponent_for.Goals as goal
 
 pub returns : goal.returns

@@ -1,11 +1,6 @@
 use Rattle.std.proofs.Common.{length, ap, arith}
-use Rattle.histogram.proofs.LaidLaws.{length-newer_is, moved}
+use Rattle.histogram.proofs.LaidLaws.{length-newer_is}
 use Rattle.histogram.proofs.RaiseLaws.{found, head_few, held_few, its_own, next_done, next_less, next_ready, next_room, raise_fits, raise_gathered, raise_none, raise_some, rest_of, short_up}
-use Rattle.histogram.specs.Raising.{laid, raised}
-use Rattle.histogram.specs.Settings.{room}
-use Rattle.std.specs.Str.Parse.{digits_value}
-use Rattle.theory.proofs.Views.{kept}
-use Rattle.theory.specs.Buckets.{within}
 use Rattle.histogram.proofs.inserting.+raise.Goals as goal
 
 pub move_to-requires : goal.move_to-requires

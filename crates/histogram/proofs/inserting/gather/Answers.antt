@@ -1,10 +1,7 @@
 use Rattle.std.proofs.Common.{◌≡◌, ℕ, ◌+◌, List, [], ◌++◌, length, get_or, take, drop, ap, ◌∙◌, arith}
 use Rattle.histogram.proofs.LaidLaws.{all_moved, moved, one_fits, own_more, own_stop, window_more}
 use Rattle.histogram.specs.Raising.{own_of}
-use Rattle.histogram.specs.Settings.{room}
 use Rattle.std.proofs.lemmas.List.{drop_all, length-append, length-set, length-take-le}
-use Rattle.theory.proofs.Views.{kept}
-use Rattle.theory.specs.Buckets.{within}
 use Rattle.theory.specs.Sound.{zero_entry}
 use Rattle.theory.specs.declared.entries.Entry.{Entry}
 use Rattle.histogram.proofs.inserting.gather.Goals as goal

@@ -1,8 +1,6 @@
 use Rattle.std.proofs.Common.{◌≡◌, ℕ, ◌+◌, ◌*◌, ◌∷◌, get_or, drop, ap, ◌∙◌, arith}
 use Rattle.histogram.proofs.LaidLaws.{all_moved, length-newer_is, moved, newer_next}
-use Rattle.histogram.specs.Settings.{room}
 use Rattle.std.proofs.lemmas.List.{drop_all}
-use Rattle.theory.proofs.Views.{kept}
 use Rattle.theory.specs.Levels.{newer}
 use Rattle.histogram.proofs.inserting.halve.Goals as goal
 

@@ -1,10 +1,7 @@
-use Rattle.std.proofs.Common.{zero, List, [], length, sym, ap, ◌∙◌, arith}
+use Rattle.std.proofs.Common.{List, [], length, sym, ap, ◌∙◌, arith}
 use Rattle.histogram.proofs.InsertLaws.{past_zeros, start, zeroed}
 use Rattle.histogram.specs.Entering.{padded}
 use Rattle.histogram.specs.Raising.{raised}
-use Rattle.histogram.specs.Settings.{room}
-use Rattle.theory.proofs.Views.{kept}
-use Rattle.theory.specs.Buckets.{top}
 use Rattle.theory.specs.declared.entries.Entry.{Entry}
 use Rattle.histogram.proofs.inserting.insert.Goals as goal
 

@@ -1,8 +1,6 @@
 use Rattle.std.proofs.Common.{arith}
 use Rattle.histogram.proofs.ZeroLaws.{zeros_else, zeros_more, zeros_then}
 use Rattle.std.proofs.lemmas.List.{take_all}
-use Rattle.std.specs.Str.Parse.{digits_value}
-use Rattle.theory.specs.Buckets.{stamps}
 use Rattle.theory.specs.Sound.{zero_entry}
 use Rattle.histogram.proofs.levels.all_zero.Goals as goal
 

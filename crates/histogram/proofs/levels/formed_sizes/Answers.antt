@@ -3,8 +3,7 @@ use Rattle.histogram.proofs.TailLaws.{level-total, summed, tail_after, tail_befo
 use Rattle.histogram.specs.Tails.{Tail}
 use Rattle.std.proofs.lemmas.List.{length-take-le, nil_from_length, take-append-drop, take_rest}
 use Rattle.std.proofs.lemmas.Bool.{eqb-false, eqb-true}
-use Rattle.std.specs.Str.Parse.{digits_value}
-use Rattle.theory.specs.Buckets.{top, total}
+use Rattle.theory.specs.Buckets.{total}
 use Rattle.histogram.proofs.levels.formed_sizes.Goals as goal
 
 pub returns-then-e-settings : goal.returns-then-e-settings

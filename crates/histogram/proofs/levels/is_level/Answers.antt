@@ -2,7 +2,6 @@ use Rattle.std.proofs.Common.{◌≡◌, ◌+◌, ◌<◌, ◌⊎◌, get_or, dr
 use Rattle.histogram.proofs.TailLaws.{level_no, level_yes}
 use Rattle.histogram.specs.Tails.{levelled}
 use Rattle.std.proofs.lemmas.List.{drop_all, drop_more}
-use Rattle.std.specs.Str.Parse.{digits_value}
 use Rattle.theory.specs.Sound.{zero_entry}
 use Rattle.histogram.proofs.levels.is_level.Goals as goal
 use Rattle.histogram.proofs.levels.is_level.Goals.{then-bucket-e-via-then-bucket-e, then-bucket-e-via-else-bucket-e+then-bucket-before}

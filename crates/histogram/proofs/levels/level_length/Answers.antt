@@ -2,8 +2,7 @@ use Rattle.std.proofs.Common.{◌≡◌, ℕ, ◌-◌, true, take, sym, ap, ◌�
 use Rattle.histogram.proofs.TailLaws.{level_more, tail_front, tail_rises}
 use Rattle.histogram.specs.Tails.{levelled}
 use Rattle.std.proofs.lemmas.Bool.{false≢true}
-use Rattle.std.specs.Str.Parse.{digits_value}
-use Rattle.theory.specs.Sound.{filled, zero_entry}
+use Rattle.theory.specs.Sound.{zero_entry}
 use Rattle.histogram.proofs.levels.level_length.Goals as goal
 
 pub returns-then-not-is_level : goal.returns-then-not-is_level

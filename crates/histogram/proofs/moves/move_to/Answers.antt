@@ -1,5 +1,5 @@
 use Rattle.std.proofs.Common.{◌∙◌}
-use Rattle.histogram.proofs.LaidLaws.{copied, moved}
+use Rattle.histogram.proofs.LaidLaws.{copied}
 use Rattle.histogram.proofs.moves.move_to.Goals as goal
 
 pub returns : goal.returns

@@ -1,5 +1,4 @@
 use Rattle.std.proofs.Common.{◌≡◌, ℕ, ◌-◌, ◌≤◌, true, take, Some, Option, sym, ap, ◌∙◌, subst, arith}
-use Rattle.histogram.proofs.RaiseLaws.{found}
 use Rattle.histogram.proofs.StretchLaws.{buckets_live, buckets_tail, surveyed_none, surveyed-some, tail_buckets, tail_facts}
 use Rattle.histogram.specs.Surveys.{lives, told}
 use Rattle.histogram.specs.Tails.{Tail}
@@ -7,8 +6,7 @@ use Rattle.histogram.specs.declared.surveys.Survey.{Survey}
 use Rattle.std.proofs.ByRecursion.{All-weaker}
 use Rattle.std.proofs.lemmas.List.{take_rest}
 use Rattle.std.proofs.lemmas.Bool.{false≢true}
-use Rattle.std.specs.Str.Parse.{digits_value}
-use Rattle.theory.specs.Buckets.{top, within}
+use Rattle.theory.specs.Buckets.{within}
 use Rattle.theory.specs.Sound.{every, is_zero}
 use Rattle.histogram.proofs.surveys.examine.Goals as goal
 use Rattle.histogram.proofs.surveys.examine.Goals.{then-stretch-most-via-then-stretch-most, then-stretch-most-via-else-stretch-most+then-buckets-most, then-stretch-most-via-else-stretch-most+else-buckets-most+then-not-all_zero}

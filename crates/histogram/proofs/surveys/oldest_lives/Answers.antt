@@ -3,7 +3,6 @@ use Rattle.histogram.proofs.SurveyLaws.{lives_at}
 use Rattle.histogram.specs.Surveys.{lives}
 use Rattle.std.proofs.lemmas.List.{nil_from_length}
 use Rattle.std.proofs.lemmas.Bool.{eqb-false, eqb-true}
-use Rattle.std.specs.Str.Parse.{digits_value}
 use Rattle.theory.specs.Sound.{zero_entry}
 use Rattle.histogram.proofs.surveys.oldest_lives.Goals as goal
 

@@ -5,8 +5,7 @@ use Rattle.std.proofs.lemmas.Nat.{one_shl}
 use Rattle.std.proofs.ByRecursion.{All-get_or}
 use Rattle.std.proofs.lemmas.List.{length-take-le, take_all}
 use Rattle.std.proofs.lemmas.Bool.{ltb-true}
-use Rattle.std.specs.Str.Parse.{digits_value}
-use Rattle.theory.specs.Buckets.{oldest, total, within}
+use Rattle.theory.specs.Buckets.{total, within}
 use Rattle.theory.specs.Sound.{zero_entry}
 use Rattle.histogram.proofs.surveys.windowed.Goals as goal
 use Rattle.histogram.proofs.surveys.windowed.Goals.{then-loop-n-test+else-not-in_window, else-loop-n-test}

@@ -1,8 +1,5 @@
 use Rattle.std.proofs.Common.{Ok, Err, refl, ap, ◌∙◌, arith}
 use Rattle.buckets.proofs.CountLaws.{new_total, next, next_buckets}
-use Rattle.histogram.specs.Entering.{standing}
-use Rattle.std.specs.Str.Parse.{digits_value}
-use Rattle.theory.proofs.Views.{cap, kept}
 use Rattle.theory.specs.Buckets.{total}
 use Rattle.buckets.proofs.board.Board.add.Goals as goal
 

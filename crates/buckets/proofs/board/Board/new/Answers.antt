@@ -1,7 +1,6 @@
 use Rattle.std.proofs.Common.{replicate, sym, refl, arith}
 use Rattle.buckets.proofs.CountLaws.{empty_sound}
 use Rattle.std.proofs.lemmas.List.{length-replicate}
-use Rattle.std.specs.Str.Parse.{digits_value}
 use Rattle.theory.specs.Sound.{zero_entry}
 use Rattle.buckets.proofs.board.Board.new.Goals as goal
 

@@ -1,7 +1,5 @@
 use Rattle.std.proofs.Common.{◌*◌, ◌/◌, arith}
 use Rattle.histogram.proofs.ExponentLaws.{at_most_30, product}
-use Rattle.std.specs.Str.Parse.{digits_value}
-use Rattle.theory.proofs.Views.{cap}
 use Rattle.histogram.proofs.settings.Settings.new.Goals as goal
 
 pub exponent_for-top-requires : goal.exponent_for-top-requires
