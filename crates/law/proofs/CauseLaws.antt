@@ -5,9 +5,9 @@ use Rattle.law.specs.Calls.{room_for, text_test}
 use Rattle.law.specs.Faults.{call_fault_number}
 use Rattle.law.specs.Law.{NotSixteen, act_causes, ask_causes, causes, causes_over, join_causes, refusal_of, slab_cause}
 use Rattle.law.specs.Runs.{Brought, History, Opened, Other, Own, Shut, Since, Standing, since}
-use Rattle.law.specs.Tests.{or_else, verdict, when}
+use Rattle.law.specs.Tests.{verdict, when}
 use Rattle.law.specs.Tracks.{Act, At, Ending, Line, Opening, PlainCall, Question, Retiring, Total}
-use Rattle.law.specs.declared.faults.CallFault.TheVariants.{AlreadyOpen, BadCap, BadK, BadLongest, BadWindow, EarlyTick, LateTick, NoRoom, NoSuchTrack, NoWindow, NotOpen, OverCap, SlabLength, Text}
+use Rattle.law.specs.declared.faults.CallFault.TheVariants.{BadCap, BadK, BadLongest, BadWindow, EarlyTick, LateTick, NoRoom, NoSuchTrack, NoWindow, OverCap, SlabLength}
 use Rattle.law.specs.declared.faults.CallFault.{CallFault}
 use Rattle.law.specs.declared.kinds.Outcome.TheVariants.{Answered, Done, Refused}
 use Rattle.law.specs.declared.kinds.Outcome.{Outcome}

@@ -1,14 +1,13 @@
 -- The worked examples.
-use Rattle.std.proofs.Common.{◌≡◌, ℕ, ◌*◌, ◌/◌, ◌≤◌, List, [], ◌∷◌, Ok, codes, sym, refl, ap, ◌∙◌, inl, arith}
+use Rattle.std.proofs.Common.{◌≡◌, ℕ, ◌*◌, ◌/◌, ◌≤◌, [], ◌∷◌, Ok, codes, sym, refl, ap, ◌∙◌, inl, arith}
 use Rattle.histogram.proofs.ExponentLaws.{largest-between}
 use Rattle.histogram.specs.Settings.{room}
 use Rattle.law.proofs.LargestLaws.{largest_one}
 use Rattle.law.specs.Calls.{room_for}
-use Rattle.law.specs.Examples.{Asked, Characters, Room, Shown, Weight, Worked}
+use Rattle.law.specs.Examples.{Asked, Characters, Shown, Weight, Worked}
 use Rattle.law.specs.Tracks.{largest, largest_up_to}
-use Rattle.std.specs.List.{AllByRecursion}
 use Rattle.text.proofs.TextLaws.{verdict-weighed}
-use Rattle.text.specs.Encoding.{Scalar, Spells}
+use Rattle.text.specs.Encoding.{Spells}
 use Rattle.text.specs.Weights.{blank_counting, blank_free}
 use Rattle.theory.specs.Arrivals.{Largest}
 use Rattle.theory.specs.Sound.{sound}

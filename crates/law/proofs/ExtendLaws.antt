@@ -1,5 +1,5 @@
 -- A call makes every run that left the state before it longer by itself.
-use Rattle.std.proofs.Common.{◌≡◌, ℕ, List, [], ◌∷◌, sym, ap, ◌∙◌, ap₂}
+use Rattle.std.proofs.Common.{◌≡◌, ℕ, [], ◌∷◌, sym, ap, ◌∙◌, ap₂}
 use Rattle.law.proofs.SwapLaws.{run-append}
 use Rattle.law.specs.Calls.{State, called}
 use Rattle.law.specs.Law.{Extends}

@@ -1,5 +1,5 @@
 -- One call on one track: it keeps what the track's history says of it, and gets what that history says.
-use Rattle.std.proofs.Common.{◌≡◌, ℕ, ◌+◌, ◌*◌, ◌/◌, ◌%◌, ◌≤◌, true, false, not, ◌&&◌, eqb, ltb, leb, List, [], ◌∷◌, length, Some, None, Ok, Err, Option, Result, sym, refl, ap, ◌∙◌, subst, ap₂, arith}
+use Rattle.std.proofs.Common.{◌≡◌, ℕ, ◌+◌, ◌%◌, ◌≤◌, not, ◌&&◌, eqb, ltb, leb, List, [], ◌∷◌, length, Some, None, Ok, Err, Option, Result, sym, refl, ap, ◌∙◌, subst, ap₂, arith}
 use Rattle.law.proofs.SlabLaws.{padded-length}
 use Rattle.law.proofs.TestLaws.{Decide, decide, or_else_same, when_fails, when_false, when_passes}
 use Rattle.law.proofs.TrackLaws.{Fits, answer_right, buckets_fit, closes, half_of, held_from, lined_fits, new_weight, opened_fits, padded-take, passes, top_of, weight_is}
@@ -7,10 +7,9 @@ use Rattle.law.specs.Calls.{Local, acts, answer, ask_tests, entered, is_sound, k
 use Rattle.law.specs.Law.{LineWeighs, Right, act_causes, ask_causes, line_causes, opening_causes, refusal_of}
 use Rattle.law.specs.Runs.{Since, Standing, Opened, Shut, acted, buckets_of, count_of, k_of, line_weight, lined, sum_at, true_sum}
 use Rattle.law.specs.Tests.{between, judged, or_else, verdict, when}
-use Rattle.law.specs.Tracks.{Act, At, Held, Line, Open, Opening, Question, Retiring, Track, Unopened}
+use Rattle.law.specs.Tracks.{Act, At, Line, Open, Opening, Question, Retiring, Track, Unopened}
 use Rattle.law.specs.declared.faults.CallFault.TheVariants.{AlreadyOpen, BadCap, BadK, BadLongest, BadWindow, EarlyTick, Full, LateTick, NoRoom, NotOpen, OverCap, Unsound}
 use Rattle.law.specs.declared.faults.CallFault.{CallFault}
-use Rattle.law.specs.declared.kinds.Answer.{Answer}
 use Rattle.law.specs.declared.kinds.Outcome.TheVariants.{Answered, Done, Refused}
 use Rattle.law.specs.declared.kinds.Outcome.{Outcome}
 use Rattle.law.specs.declared.shapes.Shape.{Shape}

@@ -1,5 +1,5 @@
 -- Every run: what its calls get and what it leaves is right.
-use Rattle.std.proofs.Common.{◌≡◌, ℕ, ◌+◌, ◌*◌, ◌<◌, ◌≤◌, not, eqb, ltb, ◌⊎◌, List, [], ◌∷◌, length, get_or, take, set, Some, None, Option, sym, refl, ap, ◌∙◌, subst, inl, inr, arith}
+use Rattle.std.proofs.Common.{◌≡◌, ℕ, ◌+◌, ◌*◌, ◌<◌, ◌≤◌, not, eqb, ltb, ◌⊎◌, List, [], ◌∷◌, length, get_or, set, Some, None, Option, sym, refl, ap, ◌∙◌, subst, inl, inr, arith}
 use Rattle.law.proofs.CauseLaws.{caused_sound}
 use Rattle.law.proofs.LocalLaws.{Holds, LocalAnswer, LocalGood, local_good, settled}
 use Rattle.law.proofs.SlabLaws.{part_length, part_other, part_put}
@@ -8,7 +8,7 @@ use Rattle.law.proofs.TestLaws.{or_else_same, when_false, when_true}
 use Rattle.law.proofs.TotalLaws.{Tracks, at_open, open_not, total_asks, total_right, total_tests_lem, tracks_from}
 use Rattle.law.proofs.TrackLaws.{held_from, kept_as}
 use Rattle.law.specs.Calls.{Got, Local, State, acts, called, last_tick, placed, put_stretch, refusing, slab_test, stretch_at, total_answer, total_tests, totalled, tracks_of}
-use Rattle.law.specs.Law.{AnswerRight, EventRight, EventsRight, Kept, KeptAs, LawOverRuns, LineWeighs, Right, RunRight, Truthful, act_causes, causes, causes_over, refusal_of, slab_cause}
+use Rattle.law.specs.Law.{AnswerRight, EventRight, EventsRight, Kept, KeptAs, LawOverRuns, LineWeighs, Right, RunRight, Truthful, act_causes, causes, causes_over, refusal_of}
 use Rattle.law.specs.Runs.{Brought, Event, History, Made, Opened, Other, Own, Ran, Shut, Standing, Strange, Strangers, changed, count_over, fresh, least_k, next, run, run_from, since, sum_over, with_slab}
 use Rattle.law.specs.Shapes.{entries}
 use Rattle.law.specs.Tests.{between, judged, or_else, verdict, when}

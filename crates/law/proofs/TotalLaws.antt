@@ -6,7 +6,6 @@ use Rattle.law.proofs.TrackLaws.{Fits, answer_right, held_from, right_from}
 use Rattle.law.specs.Calls.{answer, ask_tests, is_sound, joined, nothing, padded, smaller, stretch_at, total_answer, total_tests}
 use Rattle.law.specs.Law.{Right, causes_over, join_causes}
 use Rattle.law.specs.Runs.{History, Opened, Shut, Since, Standing, buckets_of, count_of, count_over, join_k, least_k, since, sum_over, true_sum}
-use Rattle.law.specs.Shapes.{entries}
 use Rattle.law.specs.Tests.{between, or_else, verdict, when}
 use Rattle.law.specs.Tracks.{Held, Open, Track, Unopened, is_open}
 use Rattle.law.specs.declared.faults.CallFault.TheVariants.{BadWindow, EarlyTick, Unsound}

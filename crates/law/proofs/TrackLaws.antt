@@ -1,5 +1,5 @@
 -- One open track: what its history makes of its record and its stretch.
-use Rattle.std.proofs.Common.{◌≡◌, ℕ, zero, suc, ◌+◌, ◌-◌, ◌*◌, ◌/◌, ◌^◌, ◌<◌, ◌≤◌, true, ltb, ◌⊎◌, List, [], ◌∷◌, ◌++◌, length, take, drop, replicate, sym, refl, ap, ◌∙◌, subst, inl, inr, mul-le-mul, mul-le-mul_left, arith}
+use Rattle.std.proofs.Common.{◌≡◌, ℕ, zero, suc, ◌+◌, ◌-◌, ◌*◌, ◌/◌, ◌^◌, ◌<◌, ◌≤◌, true, ltb, ◌⊎◌, List, [], ◌∷◌, ◌++◌, length, take, drop, sym, refl, ap, ◌∙◌, subst, inl, inr, mul-le-mul, mul-le-mul_left, arith}
 use Rattle.histogram.proofs.EnterLaws.{zeros-zero}
 use Rattle.histogram.proofs.StretchLaws.{stretch_from}
 use Rattle.histogram.specs.Settings.{room}
@@ -17,7 +17,7 @@ use Rattle.theory.proofs.FormLaws.{formed_levels}
 use Rattle.theory.proofs.FullLaws.{few_buckets, insertion_sound, never_full, window_few, within_all}
 use Rattle.theory.proofs.KeepLaws.{brackets_truth, dropping_keeps, empty_keeps, insertions_keep}
 use Rattle.theory.proofs.SoundLaws.{sound_from, sound_says}
-use Rattle.theory.specs.Arrivals.{Keeps, at_tick, truth}
+use Rattle.theory.specs.Arrivals.{Keeps, truth}
 use Rattle.theory.specs.Buckets.{closing_figure, high, low, top, total, within}
 use Rattle.theory.specs.Sound.{every, is_zero, sound_buckets, zero_entry, zeros}
 use Rattle.theory.specs.declared.entries.Entry.{Entry}

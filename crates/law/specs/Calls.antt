@@ -1,5 +1,5 @@
 -- What the calls mean. A call on a track is a function of that track's record and stretch, lifted by one definition.
-use Rattle.std.specs.Prelude.{ℕ, zero, suc, ◌+◌, ◌*◌, ◌/◌, ◌%◌, min, Bool, true, false, cond, not, ◌&&◌, List, [], ◌∷◌, ◌++◌, length, take, drop, Some, None, Ok, Err, Option, Result, ◌==◌, nat_lt, slice_index_or, slice_set}
+use Rattle.std.specs.Prelude.{ℕ, zero, suc, ◌+◌, ◌*◌, ◌/◌, ◌%◌, min, Bool, cond, not, ◌&&◌, List, [], ◌∷◌, ◌++◌, length, take, drop, Some, None, Ok, Err, Option, Result, ◌==◌, nat_lt, slice_index_or, slice_set}
 use Rattle.text.specs.Texts.{weighed}
 use Rattle.text.specs.declared.faults.TextFault.{TextFault}
 use Rattle.theory.specs.Buckets.{total, insertions, within, low, high, closing_figure}

@@ -1,12 +1,12 @@
 -- The law over runs: what every list of calls on a new programme, with one slab that may hold anything at first, gets and leaves.
-use Rattle.std.specs.Prelude.{◌≡◌, ℕ, zero, suc, ◌+◌, ◌-◌, ◌*◌, ◌/◌, ◌%◌, ◌<◌, ◌≤◌, Bool, true, false, not, ◌&&◌, List, [], ◌∷◌, ◌++◌, length, Some, None, Option, ◌==◌, ◌≢◌, nat_lt, slice_index_or}
+use Rattle.std.specs.Prelude.{◌≡◌, ℕ, zero, suc, ◌+◌, ◌-◌, ◌*◌, ◌/◌, ◌%◌, ◌<◌, ◌≤◌, not, ◌&&◌, List, [], ◌∷◌, ◌++◌, length, Some, None, Option, ◌==◌, ◌≢◌, nat_lt, slice_index_or}
 use Rattle.text.specs.Texts.{Weighs, weighed}
 use Rattle.theory.specs.Arrivals.{Largest}
 use Rattle.theory.specs.Sound.{zeros}
 use Rattle.theory.specs.declared.entries.Entry.{Entry}
-use Rattle.law.specs.Calls.{State, last_tick, stretch_at, room_for, text_test, weight_of}
+use Rattle.law.specs.Calls.{State, last_tick, stretch_at, room_for, text_test}
 use Rattle.law.specs.Faults.{call_fault_number}
-use Rattle.law.specs.Runs.{Brought, Own, Other, Made, Event, History, Ran, run, Strangers, Since, Standing, Shut, Opened, since, sum_at, true_sum, own_sum, k_of, buckets_of, count_of, sum_over, least_k, count_over, line_weight}
+use Rattle.law.specs.Runs.{Brought, Own, Other, Made, Event, History, run, Strangers, Since, Standing, Shut, Opened, since, sum_at, true_sum, own_sum, k_of, buckets_of, count_of, sum_over, least_k, count_over, line_weight}
 use Rattle.law.specs.Shapes.{entries}
 use Rattle.law.specs.Tests.{when, verdict, between}
 use Rattle.law.specs.Tracks.{Held, Track, Unopened, Open, largest, Act, Opening, Line, Question, Retiring, PlainCall, At, Total, Ending}

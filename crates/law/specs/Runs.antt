@@ -1,11 +1,11 @@
 -- Runs of calls and their histories; and what a history alone tells of a track.
-use Rattle.std.specs.Prelude.{◌≡◌, ℕ, zero, suc, ◌+◌, ◌/◌, Bool, true, false, cond, not, ◌&&◌, List, [], ◌∷◌, ◌++◌, length, replicate, Some, None, Option, ◌==◌, nat_le, nat_lt}
+use Rattle.std.specs.Prelude.{◌≡◌, ℕ, zero, suc, ◌+◌, ◌/◌, cond, ◌&&◌, List, [], ◌∷◌, length, replicate, ◌==◌, nat_le, nat_lt}
 use Rattle.text.specs.Texts.{weighed}
 use Rattle.theory.specs.Buckets.{insertions, within}
 use Rattle.theory.specs.declared.entries.Entry.{Entry}
 use Rattle.law.specs.Calls.{State, Got, called, weight_of, smaller}
 use Rattle.law.specs.Shapes.{entries}
-use Rattle.law.specs.Tracks.{Track, Unopened, Act, Opening, Line, Question, Retiring, PlainCall, At, Total, Ending}
+use Rattle.law.specs.Tracks.{Unopened, Act, Opening, Line, Question, Retiring, PlainCall, At, Total, Ending}
 use Rattle.law.specs.declared.kinds.Outcome.{Outcome}
 use Rattle.law.specs.declared.kinds.Outcome.TheVariants.{Done, Answered, Refused}
 use Rattle.law.specs.declared.shapes.Shape.{Shape}

@@ -4,6 +4,7 @@
 //! means and what a history of calls tells of a track. [`law_over_runs`] has no code: what it promises is proved of those
 //! definitions, for every counting rule.
 #![tactic(auto)]
+
 mod faults;
 mod kinds;
 mod limits;

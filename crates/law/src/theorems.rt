@@ -10,7 +10,7 @@ use text::CountingRule;
 /// at first: every answer lies round the true sum, every track keeps the buckets that insertion leaves and few of them, every
 /// refusal has its cause, an unsound stretch is never found, and calls on different tracks can change places.
 pub fn law_over_runs<R: CountingRule>(rule: &R)
-    ensures holds { LawOverRuns (weight rule.now) }
+    ensures holds { LawOverRuns (R.weight rule.now) }
 {
     let _ = rule;
 }
