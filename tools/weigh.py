@@ -2,7 +2,7 @@
 """What `weigh` must print, worked out with Python's own decoder: reads standard input, writes standard output.
 
 The expected output of crates/weigh was made with it, and it serves to compare on other input:
-    tools/weigh.py < FILE | diff - <(target/bin/weigh < FILE)
+    tools/weigh.py < FILE | diff - <(crates/weigh/out/weigh < FILE)
 """
 import sys
 
