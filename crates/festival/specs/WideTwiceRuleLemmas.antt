@@ -1,3 +1,4 @@
+-- Lemmas for the terms of a counting rule: no weight is above 4, and above the last code point the answer is 0.
 use Rattle.std.specs.Prelude.{◌≡◌, ℕ, ◌<◌, ◌≤◌, Bool, true, false, cond, ◌&&◌, List, [], ◌∷◌, nat_le, refl}
 use Rattle.std.proofs.Common.{arith}
 use Rattle.std.proofs.lemmas.Bool.{leb-true, lt-leb, and_parts, and_right, or_from}

@@ -1,5 +1,5 @@
 -- Sound buckets and a sound stretch.
-use Rattle.std.specs.Prelude.{ℕ, zero, suc, ◌+◌, ◌*◌, Bool, true, ◌&&◌, leb, List, [], ◌∷◌, length, take, drop, replicate, ◌==◌, nat_le, nat_lt}
+use Rattle.std.specs.Prelude.{ℕ, zero, suc, ◌+◌, ◌*◌, Bool, true, ◌&&◌, List, [], ◌∷◌, length, take, drop, replicate, ◌==◌, nat_le, nat_lt}
 use Rattle.theory.specs.Buckets.{how_many, top}
 use Rattle.theory.specs.declared.entries.Entry.{Entry}
 
@@ -28,7 +28,7 @@ start_at_zero (b ∷ bs) = b.exponent == 0 && step_up 0 bs
 
 -- the largest exponent has 1 to l + 1 buckets, each smaller one l or l + 1
 abbrev pub filled : ℕ → List Entry → Bool
-filled l bs = every_below (top bs) (λ e. leb l (how_many e bs)) && every_below (suc (top bs)) (λ e. leb (how_many e bs) (l + 1))
+filled l bs = every_below (top bs) (λ e. nat_le l (how_many e bs)) && every_below (suc (top bs)) (λ e. nat_le (how_many e bs) (l + 1))
 
 -- buckets as insertion leaves them, the last at tick t
 abbrev pub formed : (l t : ℕ) → List Entry → Bool
@@ -37,7 +37,7 @@ formed l t bs = never_rise t bs && (start_at_zero bs && filled l bs)
 -- sound buckets: formed, none expired, and no exponent above r
 abbrev pub sound_buckets : (l r N t : ℕ) → List Entry → Bool
 sound_buckets l r N t bs =
-    formed l t bs && (every (λ b. nat_lt t (b.stamp + N)) bs && every (λ b. leb b.exponent r) bs)
+    formed l t bs && (every (λ b. nat_lt t (b.stamp + N)) bs && every (λ b. nat_le b.exponent r) bs)
 
 -- what an entry holds where no bucket is
 abbrev pub zero_entry : Entry
