@@ -1,3 +1,4 @@
 mod NumberLaws
+mod ReportLaws
 mod SizeLaws
 pub mod CountLaws

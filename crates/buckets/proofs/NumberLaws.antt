@@ -1,35 +1,22 @@
 -- Laws of reading a number digit by digit.
-use Rattle.std.proofs.Common.{◌≡◌, ℕ, zero, suc, ◌+◌, ◌-◌, ◌*◌, ◌^◌, ◌<◌, ◌≤◌, List, ◌++◌, map, length, get_or, take, drop, Some, None, decimal, sym, refl, ap, ◌∙◌, subst, ⊎_elim, arith}
+use Rattle.std.proofs.Common.{◌≡◌, ℕ, zero, suc, ◌+◌, ◌-◌, ◌*◌, ◌^◌, ◌<◌, ◌≤◌, List, length, get_or, take, Some, None, decimal, sym, refl, ap, ◌∙◌, subst, ⊎_elim, arith}
 use Rattle.buckets.specs.Numbers.{Spells, number_below, number_up_to, NumberRead}
 use Rattle.std.proofs.lemmas.Fmt.{digits_decimal, digits_value-decimal, decimal-digits_value, decimal_nonempty, first_decimal, decimal_digit, decimal_injective}
-use Rattle.std.proofs.lemmas.Int.Digits.{digits_value_is, digits_value_more, digits_more, number_after_append, number_after_ge}
+use Rattle.std.proofs.lemmas.Int.Digits.{digits_value_more, digits_more}
 use Rattle.std.proofs.lemmas.Slice.Eq.{bytes_eq-Decides}
-use Rattle.std.proofs.lemmas.List.{take-append-drop, take_all, map-append}
-use Rattle.std.proofs.lemmas.Str.Parse.{IsNumeralModel, numerals_by_value, tells_digits, tells_by_index}
+use Rattle.std.proofs.lemmas.List.{take_all}
+use Rattle.std.proofs.lemmas.Str.Parse.{IsNumeralModel, digits_value-take-le, numerals_by_value, tells_digits, tells_by_index}
 use Rattle.std.proofs.lemmas.Bool.{cond-true, cond-false, cond_both, both_ways, lt-ltb, le-ltb, cases_lt}
 use Rattle.std.specs.Str.Parse.{AllDigits, digits_value}
 use Rattle.std.specs.Int.{IsInRange}
 use Rattle.std.specs.Char.{digit_value}
-use Rattle.std.specs.Int.Digits.{number_from_digits as number, number_from_digits_after}
 use Rattle.std.specs.Str.{bytes_eq}
 
 own : IsNumeralModel (AllDigits 10) (digits_value 10)
 own = numerals_by_value (AllDigits 10) tells_digits
 
-digit_is : (c : ℕ) → 48 ≤ c → c ≤ 57 → digit_value c ≡ c - 48
-digit_is c g h = cond-false _ _ _ (le-ltb c 48 g) ∙ cond-true _ _ _ (lt-ltb c 58 (omega arith))
-
--- the first digits come to no more than all of them
-front_le : (i : ℕ) (line : List ℕ) → digits_value 10 (take i line) ≤ digits_value 10 line
-front_le i line =
-    let front = map digit_value (take i line) in
-    let back = map digit_value (drop i line) in
-    let whole : digits_value 10 line ≡ number_from_digits_after 10 (number 10 front) back =
-    ap (digits_value 10) (sym (take-append-drop i line))
-    ∙ digits_value_is 10 (take i line ++ drop i line)
-    ∙ ap (number 10) (map-append digit_value (take i line) (drop i line))
-    ∙ number_after_append 10 0 front back in
-    omega (arith, whole, digits_value_is 10 (take i line), number_after_ge 10 (number 10 front) back (omega arith))
+digit_is : (c : ℕ) → IsInRange 48 57 c → digit_value c ≡ c - 48
+digit_is c r = cond-false _ _ _ (le-ltb c 48 r.0) ∙ cond-true _ _ _ (lt-ltb c 58 (omega (arith, r.1)))
 
 -- a line spells one number at most, which is found among all of them
 below_some : (line : List ℕ) (m n : ℕ) → m ≤ 2 ^ 64 → n < m → Spells line n → number_below m line ≡ Some n
@@ -64,14 +51,14 @@ module _ (line : List ℕ) (most : ℕ) (fits : most < 2 ^ 64) where
       λ p. let same : n ≡ m = cc in (omega arith, e ∙ ap decimal same),
       λ q. ap Some (decimal_injective n m (omega arith) (omega (arith, q.0)) (sym e ∙ q.1)),
     );
-    nothing = (λ p. let z : ◌≡◌ {A = ℕ} 0 1 = cc in absurd (omega arith), λ none. absurd (none n le e));
+    nothing = (λ p. cc, λ none. absurd (none n le e));
     value = sym (below_some line (suc most) n (omega arith) (omega arith) e);
   }
 
   refused : ((n : ℕ) → n ≤ most → Spells line n → ⊥) → NumberRead line most None
   unfolding number_up_to
   refused none = record {
-    number = λ m. (λ p. let z : ◌≡◌ {A = ℕ} 0 1 = cc in absurd (omega arith), λ q. absurd (none m q.0 q.1));
+    number = λ m. (λ p. cc, λ q. absurd (none m q.0 q.1));
     nothing = (λ _. none, λ _. refl);
     value = sym (below_none line (suc most) (λ n l. none n (omega arith)));
   }
@@ -91,24 +78,22 @@ module _ (line : List ℕ) (most : ℕ) (fits : most < 2 ^ 64) where
       none (subst (λ (ds : List ℕ). IsInRange 48 57 (get_or ds i 0)) (sym e)
       (digits_decimal (numerals_by_value _ tells_by_index) n (omega arith) i (omega (arith, ap length e)))))
 
-  begun_value : (i number : ℕ) → Begun line most i number → i < length line → 48 ≤ get_or line i 0 → get_or line i 0 ≤ 57
-      → number * 10 + (get_or line i 0 - 48) ≡ digits_value 10 (take (i + 1) line)
-  begun_value i number h l g k =
-      (λ j. h.is j * 10 + sym (digit_is (get_or line i 0) g k) j) ∙ sym (digits_value_more 10 line i l)
+  -- one digit more
+  module _ (i number : ℕ) (h : Begun line most i number) (l : i < length line) (digit : IsInRange 48 57 (get_or line i 0)) where
+    value : number * 10 + (get_or line i 0 - 48) ≡ digits_value 10 (take (i + 1) line)
+    value = (λ j. h.is j * 10 + sym (digit_is (get_or line i 0) digit) j) ∙ sym (digits_value_more 10 line i l)
 
-  pub refused_passed : (i number : ℕ) → Begun line most i number → i < length line → 48 ≤ get_or line i 0 → get_or line i 0 ≤ 57
-      → most < number * 10 + (get_or line i 0 - 48) → NumberRead line most None
-  refused_passed i number h l g k passed = refused (λ n le e.
-      omega (arith, begun_value i number h l g k, front_le (i + 1) line, ap (digits_value 10) e, digits_value-decimal own n (omega arith)))
+    pub refused_passed : most < number * 10 + (get_or line i 0 - 48) → NumberRead line most None
+    refused_passed passed = refused (λ n le e.
+        omega (arith, value, digits_value-take-le 10 line (i + 1) (omega arith), ap (digits_value 10) e, digits_value-decimal own n (omega arith)))
 
-  pub begun_more : (i number : ℕ) → Begun line most i number → i < length line → 48 ≤ get_or line i 0 → get_or line i 0 ≤ 57
-      → number * 10 + (get_or line i 0 - 48) ≤ most → Begun line most (i + 1) (number * 10 + (get_or line i 0 - 48))
-  begun_more i number h l g k small = record {
-    within = omega arith;
-    digits = digits_more 10 line i l h.digits (omega (arith, digit_is (get_or line i 0) g k));
-    is = begun_value i number h l g k;
-    small = small;
-  }
+    pub begun_more : number * 10 + (get_or line i 0 - 48) ≤ most → Begun line most (i + 1) (number * 10 + (get_or line i 0 - 48))
+    begun_more small = record {
+      within = omega arith;
+      digits = digits_more 10 line i l h.digits (omega (arith, digit_is (get_or line i 0) digit));
+      is = value;
+      small = small;
+    }
 
   pub begun_all : (i number : ℕ) → Begun line most i number → length line ≤ i → 0 < length line → (get_or line 0 0 ≡ 48 → length line ≡ 1)
       → NumberRead line most (Some number)

@@ -1,7 +1,8 @@
 -- Laws of the sizes that are printed oldest first.
-use Rattle.std.proofs.Common.{◌≡◌, ℕ, ◌-◌, ◌<◌, ◌≤◌, List, [], ◌∷◌, ◌++◌, map, reverse, length, get_or, drop, codes, decimal, sym, refl, ap, ◌∙◌, append_assoc, append-nil, arith}
-use Rattle.buckets.specs.Reports.{spaced, sizes_list}
-use Rattle.std.proofs.lemmas.List.{reverse-append, map_push, drop_more, drop_all, length-map, length-reverse, length-drop}
+use Rattle.std.proofs.Common.{◌≡◌, ℕ, ◌+◌, ◌<◌, List, [], ◌∷◌, ◌++◌, map, reverse, length, take, drop, All, codes, decimal, sym, refl, ap, ◌∙◌, subst, append_assoc, length-append, arith}
+use Rattle.buckets.specs.Reports.{Small, spaced, sizes_list}
+use Rattle.std.proofs.lemmas.List.Elements.{All-head, All-drop}
+use Rattle.std.proofs.lemmas.List.{reverse-append, map_push, take_at, drop_at, take-append-drop, length-map, length-reverse, length-drop}
 use Rattle.theory.specs.Buckets.{size}
 use Rattle.theory.specs.declared.entries.Entry.{Entry}
 
@@ -22,34 +23,33 @@ sizes_more b bs some =
     ap spaced (ap (map size) (reverse-append (b ∷ []) bs) ∙ map_push size (reverse bs) b)
     ∙ spaced_more (map size (reverse bs)) (size b) (simp (length-map, length-reverse) some)
 
-module _ (start : List ℕ) (bs : List Entry) where
-  -- out has the sizes of the buckets from `at` on
-  abbrev pub Listed : List ℕ → ℕ → Type 0
-  Listed out at = out ≡ start ++ sizes_list (drop at bs)
+-- the buckets `rest` are left to print, of all the last is next
+module _ (bs rest rest' : List Entry) (b : Entry) (front : rest ≡ take (length rest) bs) (within : length rest < length bs)
+    (last : rest ≡ rest' ++ b ∷ []) where
+  length_next : length rest ≡ length rest' + 1
+  length_next = ap length last ∙ length-append rest' (b ∷ [])
 
-  pub listed_none : Listed start (length bs)
-  listed_none = sym (ap (λ (l : List Entry). start ++ sizes_list l) (drop_all (length bs) bs (omega arith)) ∙ append-nil start)
+  whole : bs ≡ rest' ++ (b ∷ drop (length rest) bs)
+  whole =
+      sym (take-append-drop (length rest) bs)
+      ∙ ap (λ (l : List Entry). l ++ drop (length rest) bs) (sym front ∙ last)
+      ∙ append_assoc rest' (b ∷ []) (drop (length rest) bs)
 
-  module _ (out mid out' : List ℕ) (at : ℕ) (d : Entry) (some : 0 < at) (listed : Listed out at)
-      (told : out' ≡ mid ++ decimal (size (get_or bs (at - 1) d))) where
-    next : at ≤ length bs → drop (at - 1) bs ≡ get_or bs (at - 1) d ∷ drop at bs
-    next within = drop_more bs (at - 1) d (omega arith) ∙ ap (λ (i : ℕ). get_or bs (at - 1) d ∷ drop i bs) (omega arith)
+  pub next_front : rest' ≡ take (length rest') bs
+  next_front = sym (ap (take (length rest')) whole ∙ take_at rest' (b ∷ drop (length rest) bs) (length rest') refl)
 
-    -- the oldest bucket's size comes first
-    pub listed_oldest : at ≡ length bs → mid ≡ out → Listed out' (at - 1)
-    listed_oldest last e =
-        let none : drop at bs ≡ [] = drop_all at bs (omega arith) in
-        told
-        ∙ ap (λ (l : List ℕ). l ++ decimal (size (get_or bs (at - 1) d)))
-        (e ∙ listed ∙ ap (λ (l : List Entry). start ++ sizes_list l) none ∙ append-nil start)
-        ∙ ap (λ (l : List Entry). start ++ sizes_list l) (sym (next (omega arith) ∙ ap (λ (l : List Entry). get_or bs (at - 1) d ∷ l) none))
+  pub next_within : length rest' < length bs
+  next_within = omega (arith, length_next, within)
 
-    -- and each newer one's after a blank
-    pub listed_newer : at < length bs → mid ≡ out ++ codes " " → Listed out' (at - 1)
-    listed_newer more e =
-        let b = get_or bs (at - 1) d in
-        told
-        ∙ ap (λ (l : List ℕ). l ++ decimal (size b)) (e ∙ ap (λ (l : List ℕ). l ++ codes " ") listed)
-        ∙ append_assoc (start ++ sizes_list (drop at bs)) (codes " ") (decimal (size b))
-        ∙ append_assoc start (sizes_list (drop at bs)) (codes " " ++ decimal (size b))
-        ∙ ap (λ (l : List ℕ). start ++ l) (sym (ap sizes_list (next (omega arith)) ∙ sizes_more b (drop at bs) (simp length-drop (omega arith))))
+  pub next_small : All Small bs → Small b
+  next_small small = All-head Small b (drop (length rest) bs)
+      (subst (All Small) (ap (drop (length rest')) whole ∙ drop_at rest' (b ∷ drop (length rest) bs) (length rest') refl)
+      (All-drop Small (length rest') bs small))
+
+  -- its size stands after those of the older ones and a blank
+  pub next_sizes : (n : ℕ) → n ≡ size b
+      → sizes_list (drop (length rest) bs) ++ (codes " " ++ decimal n) ≡ sizes_list (drop (length rest') bs)
+  next_sizes n told =
+      ap (λ (m : ℕ). sizes_list (drop (length rest) bs) ++ (codes " " ++ decimal m)) told
+      ∙ sym (ap sizes_list (ap (drop (length rest')) whole ∙ drop_at rest' (b ∷ drop (length rest) bs) (length rest') refl)
+      ∙ sizes_more b (drop (length rest) bs) (simp length-drop (omega (arith, within))))

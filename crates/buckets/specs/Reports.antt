@@ -2,6 +2,8 @@
 use Rattle.std.specs.Prelude.{ℕ, ◌≤◌, List, [], ◌∷◌, ◌++◌, map, reverse, codes, decimal}
 use Rattle.theory.specs.Buckets.{size}
 use Rattle.theory.specs.declared.entries.Entry.{Entry}
+use Rattle.buckets.specs.declared.report.Refusal.{Refusal}
+use Rattle.buckets.specs.declared.report.Refusal.TheVariants.{NotK, NotACount, NoTick}
 
 -- a bucket whose size is far below 2^64
 abbrev pub Small : Entry → Type 0
@@ -33,6 +35,22 @@ refused_count line = codes "line " ++ (decimal line ++ codes ": refused, a count
 abbrev pub refused_full : ℕ → List ℕ
 refused_full line = codes "line " ++ (decimal line ++ codes ": refused, no more ticks are left\n")
 
+-- why a line is refused
+abbrev pub reason : Refusal → List ℕ
+reason NotK = codes "k is an even number from 2 to 32"
+reason NotACount = codes "a count is a number from 0 to 960"
+reason NoTick = codes "no more ticks are left"
+
+-- the line is refused
+abbrev pub refused : ℕ → Refusal → List ℕ
+refused line NotK = refused_k line
+refused line NotACount = refused_count line
+refused line NoTick = refused_full line
+
 -- how many arrivals stand in how many buckets
+abbrev pub summary_words : ℕ → ℕ → List ℕ
+summary_words arrivals buckets = decimal arrivals ++ (codes " arrivals stand in " ++ (decimal buckets ++ codes " buckets"))
+
+-- and on one line
 abbrev pub summary_text : ℕ → ℕ → List ℕ
 summary_text arrivals buckets = decimal arrivals ++ (codes " arrivals stand in " ++ (decimal buckets ++ codes " buckets\n"))

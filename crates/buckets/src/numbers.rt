@@ -5,25 +5,20 @@ ghost use Rattle.buckets.specs.Numbers.{NumberRead};
 pub fn read_number(line: &[u8], most: u64) -> Option<u64>
     ensures { NumberRead line.now most result }
 {
-    if line.is_empty() {
-        return None;
-    }
     // Only 0 itself begins with a zero.
-    if line[0] == b'0' && line.len() > 1 {
+    if let [] | [b'0', _, ..] = line {
         return None;
     }
-    let mut number: u64 = 0;
+    let mut number = 0u64;
     for byte in line {
-        let byte = *byte;
-        if byte < b'0' || byte > b'9' {
+        if !byte.is_ascii_digit() {
             return None;
         }
-        let digit = u64::from(byte - b'0');
-        // The digits so far come to more than `most`, and further ones only add to that.
-        if number > most / 10 || digit > most - number * 10 {
+        number = number.checked_mul(10)?.checked_add(u64::from(byte - b'0'))?;
+        // Further digits only add to it.
+        if number > most {
             return None;
         }
-        number = number * 10 + digit;
     }
     Some(number)
 }

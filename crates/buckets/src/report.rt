@@ -1,89 +1,84 @@
 //! What the program prints.
-ghost use Rattle.std.specs.Prelude.{◌≡◌, ◌++◌, string_bytes, codes, decimal, OnOk};
-ghost use Rattle.buckets.specs.Reports.{Small, sizes_list, sizes_text, refused_k, refused_count, refused_full, summary_text};
-ghost use Rattle.std.specs.List.{AllByRecursion};
+ghost use Rattle.std.specs.Prelude.{◌≡◌, ◌++◌, Some, All, OnOk, string_bytes};
 ghost use Rattle.theory.specs.Buckets.{size};
+ghost use Rattle.buckets.specs.Reports.{Small, reason, refused, sizes_list, summary_words};
 
 use std::fmt;
 use theory::Entry;
 
-/// Prints the separator of sizes.
-fn write_blank(out: &mut String) -> fmt::Result
-    ensures { OnOk result (string_bytes out.new ≡ string_bytes out.old ++ codes " ") }
-{
-    write!(out, " ")?;
-    Ok(())
+/// Why a line is not taken.
+#[derive(Clone, Copy, Debug, PartialEq, Eq)]
+pub enum Refusal {
+    /// It is not k.
+    NotK,
+    /// It is not a count.
+    NotACount,
+    /// It is a count, and no tick is left for it.
+    NoTick,
 }
 
-/// Prints the size of a bucket.
-fn write_size(out: &mut String, bucket: Entry) -> fmt::Result
-    requires { Small bucket }
-    ensures { OnOk result (string_bytes out.new ≡ string_bytes out.old ++ decimal (size bucket)) }
-{
-    let size = 1u64 << bucket.exponent;
-    write!(out, "{size}")?;
-    Ok(())
-}
+impl fmt::Display for Refusal {
+    ghost output = { λ refusal. Some (reason refusal) };
 
-/// Prints the sizes of buckets, given newest first, from the oldest to the newest.
-fn list_sizes(out: &mut String, buckets: &[Entry]) -> fmt::Result
-    requires { AllByRecursion Small buckets.now }
-    ensures { OnOk result (string_bytes out.new ≡ string_bytes out.old ++ sizes_list buckets.now) }
-{
-    for at in (0..buckets.len()).rev() {
-        // A blank stands before each size but the oldest's.
-        if at + 1 < buckets.len() {
-            write_blank(out)?;
-        }
-        write_size(out, buckets[at])?;
+    fn fmt<W: fmt::Write>(&self, f: &mut fmt::Formatter<W>) -> fmt::Result {
+        f.write_str(match self {
+            Refusal::NotK => "k is an even number from 2 to 32",
+            Refusal::NotACount => "a count is a number from 0 to 960",
+            Refusal::NoTick => "no more ticks are left",
+        })
     }
+}
+
+/// Prints that a line is not taken, and why.
+pub fn refuse(out: &mut String, at: u64, refusal: Refusal) -> fmt::Result
+    ensures { OnOk result (string_bytes out.new ≡ string_bytes out.old ++ refused at refusal) }
+{
+    writeln!(out, "line {at}: refused, {refusal}")?;
     Ok(())
 }
 
-/// Prints the sizes of buckets on one line.
-pub(crate) fn write_sizes(out: &mut String, buckets: &[Entry]) -> fmt::Result
-    requires { AllByRecursion Small buckets.now }
-    ensures { OnOk result (string_bytes out.new ≡ string_bytes out.old ++ sizes_text buckets.now) }
+/// How many arrivals a bucket stands for.
+fn size_of(bucket: Entry) -> u64
+    requires { Small bucket }
+    ensures { result ≡ size bucket }
 {
-    list_sizes(out, buckets)?;
-    writeln!(out)?;
-    Ok(())
+    1 << bucket.exponent
 }
 
-/// Prints that the line cannot be k.
-pub fn refuse_k(out: &mut String, line_number: u64) -> fmt::Result
-    ensures { OnOk result (string_bytes out.new ≡ string_bytes out.old ++ refused_k line_number) }
-{
-    writeln!(
-        out,
-        "line {line_number}: refused, k is an even number from 2 to 32"
-    )?;
-    Ok(())
+/// The sizes of buckets, which are given newest first, from the oldest to the newest.
+#[derive(Clone, Copy)]
+pub struct Sizes<'a> {
+    pub(crate) buckets: &'a [Entry],
+    ghost small: { All Small buckets.now },
 }
 
-/// Prints that the line cannot be a count.
-pub fn refuse_count(out: &mut String, line_number: u64) -> fmt::Result
-    ensures { OnOk result (string_bytes out.new ≡ string_bytes out.old ++ refused_count line_number) }
-{
-    writeln!(
-        out,
-        "line {line_number}: refused, a count is a number from 0 to 960"
-    )?;
-    Ok(())
+impl fmt::Display for Sizes<'_> {
+    ghost output = { λ sizes. Some (sizes_list sizes.buckets.now) };
+
+    fn fmt<W: fmt::Write>(&self, f: &mut fmt::Formatter<W>) -> fmt::Result {
+        let [newer @ .., oldest] = self.buckets else {
+            return Ok(());
+        };
+        write!(f, "{}", size_of(*oldest))?;
+        for bucket in newer.iter().rev() {
+            write!(f, " {}", size_of(*bucket))?;
+        }
+        Ok(())
+    }
 }
 
-/// Prints that no tick is left for the line.
-pub fn refuse_full(out: &mut String, line_number: u64) -> fmt::Result
-    ensures { OnOk result (string_bytes out.new ≡ string_bytes out.old ++ refused_full line_number) }
-{
-    writeln!(out, "line {line_number}: refused, no more ticks are left")?;
-    Ok(())
+/// How many arrivals stand in how many buckets.
+#[derive(Clone, Copy, Debug, Default, PartialEq, Eq)]
+pub struct Summary {
+    pub arrivals: u64,
+    pub buckets: usize,
 }
 
-/// Prints how many arrivals stand in how many buckets.
-pub fn summary(out: &mut String, arrivals: u64, buckets: usize) -> fmt::Result
-    ensures { OnOk result (string_bytes out.new ≡ string_bytes out.old ++ summary_text arrivals buckets) }
-{
-    writeln!(out, "{arrivals} arrivals stand in {buckets} buckets")?;
-    Ok(())
+impl fmt::Display for Summary {
+    ghost output = { λ summary. Some (summary_words summary.arrivals summary.buckets) };
+
+    fn fmt<W: fmt::Write>(&self, f: &mut fmt::Formatter<W>) -> fmt::Result {
+        let Summary { arrivals, buckets } = *self;
+        write!(f, "{arrivals} arrivals stand in {buckets} buckets")
+    }
 }

@@ -1,40 +1,58 @@
 //! What a line does.
-ghost use Rattle.std.specs.Prelude.{◌≡◌, ℕ, List, ◌++◌, IfOk, string_bytes, OnOk};
-ghost use Rattle.buckets.specs.Counts.{Opened, Taken};
+//!
+//! What prints says in its contract which text it appends. The texts differ, so that no type could say it for all.
+ghost use Rattle.std.specs.Prelude.{◌≡◌, ℕ, List, ◌++◌, string_bytes, OnOk};
+ghost use Rattle.buckets.specs.Counts.{BoardRead, CountAdded, LineTaken, summed};
 ghost use Rattle.buckets.specs.Numbers.{number_up_to};
 
-use crate::board::Board;
-use crate::counts::MOST_COUNT;
+use crate::board::{Board, MOST_COUNT};
 use crate::numbers::read_number;
-use crate::report::{refuse_count, refuse_full, refuse_k, write_sizes};
+use crate::report::{Refusal, Summary, refuse};
 use histogram::MOST_K;
 use std::fmt;
 
-/// Takes in the line that is to be k.
-pub fn open_board(line: &[u8], at: u64, out: &mut String) -> Result<Option<Board>, fmt::Error>
-    ensures opened { IfOk result (λ b. ((text : List ℕ) × (string_bytes out.new ≡ string_bytes out.old ++ text) × Opened at b text (number_up_to 32 line.now))) }
+/// The board of the k that a line spells.
+fn read_board(line: &[u8]) -> Result<Board, Refusal>
+    ensures value { BoardRead result (number_up_to 32 line.now) }
 {
-    let Some(k) = read_number(line, MOST_K) else {
-        refuse_k(out, at)?;
-        return Ok(None);
-    };
-    let Some(board) = Board::new(k) else {
-        refuse_k(out, at)?;
-        return Ok(None);
-    };
-    Ok(Some(board))
+    read_number(line, MOST_K)
+        .and_then(Board::new)
+        .ok_or(Refusal::NotK)
 }
 
-/// Takes in a line that is to be a count of arrivals.
-pub fn take_count(board: &mut Board, line: &[u8], at: u64, out: &mut String) -> fmt::Result
-    ensures taken { OnOk result (((text : List ℕ) × (string_bytes out.new ≡ string_bytes out.old ++ text) × Taken at board.old board.new text (number_up_to 960 line.now))) }
+/// Adds the count of arrivals that a line spells.
+fn add_count(board: &mut Board, line: &[u8]) -> Result<(), Refusal>
+    ensures after { CountAdded board.old result board.new (number_up_to 960 line.now) }
 {
-    let Some(count) = read_number(line, MOST_COUNT) else {
-        return refuse_count(out, at);
-    };
-    if board.add(count) {
-        write_sizes(out, board.buckets())
-    } else {
-        refuse_full(out, at)
+    let count = read_number(line, MOST_COUNT).ok_or(Refusal::NotACount)?;
+    board.add(count)
+}
+
+/// Takes in a line: as long as there is no board it is to be k, and then a count of arrivals.
+pub fn take_line(board: &mut Option<Board>, line: &[u8], at: u64, out: &mut String) -> fmt::Result
+    ensures taken { OnOk result ((text : List ℕ) × (string_bytes out.new ≡ string_bytes out.old ++ text) × LineTaken at board.old board.new text line.now) }
+{
+    match board {
+        None => match read_board(line) {
+            Ok(begun) => *board = Some(begun),
+            Err(refusal) => refuse(out, at, refusal)?,
+        },
+        Some(board) => match add_count(board, line) {
+            Ok(()) => writeln!(out, "{}", board.sizes())?,
+            Err(refusal) => refuse(out, at, refusal)?,
+        },
     }
+    Ok(())
+}
+
+/// Prints how many arrivals stand in how many buckets in the end.
+pub fn sum_up(board: &Option<Board>, out: &mut String) -> fmt::Result
+    ensures summed { OnOk result (string_bytes out.new ≡ string_bytes out.old ++ summed board.now) }
+{
+    let summary = match board {
+        Some(board) => board.summary(),
+        None => Summary::default(),
+    };
+    writeln!(out, "{summary}")?;
+    Ok(())
 }

@@ -3,7 +3,7 @@ ghost use Rattle.std.specs.Prelude.{◌≤◌};
 ghost use Rattle.buckets.specs.Reports.{Small};
 
 use crate::numbers::read_number;
-use crate::report::write_sizes;
+use crate::report::Sizes;
 use std::test::Fail;
 use theory::Entry;
 
@@ -55,10 +55,14 @@ fn bucket(exponent: u64) -> Entry
 fn sizes_oldest_first(rt: HostRuntime) -> Result<(), Fail> {
     let mut out = String::new(rt.alloc());
     let none: [Entry; 0] = [];
-    write_sizes(&mut out, &none[..])?;
-    write_sizes(&mut out, &[bucket(0)][..])?;
+    let sizes = Sizes { buckets: &none };
+    writeln!(out, "{sizes}")?;
+    let one = [bucket(0)];
+    let sizes = Sizes { buckets: &one };
+    writeln!(out, "{sizes}")?;
     let buckets = [bucket(0), bucket(1), bucket(1), bucket(3), bucket(40)];
-    write_sizes(&mut out, &buckets[..])?;
+    let sizes = Sizes { buckets: &buckets };
+    writeln!(out, "{sizes}")?;
     assert_eq!(rt; out.as_str(), "\n1\n1099511627776 8 2 2 1\n");
     Ok(())
 }

@@ -5,9 +5,7 @@ use Rattle.std.proofs.lemmas.Bool.{leb-true, lt-leb, and_parts, and_right, or_fr
 use Rattle.festival.specs.Wide.{in_blocks}
 
 pub at_most_two : (wide known : Bool) → cond wide 2 (cond known 1 0) ≤ 4
-at_most_two true known = omega arith
-at_most_two false true = omega arith
-at_most_two false false = omega arith
+at_most_two wide known = grind arith
 
 -- whether each block ends at a code point: a test that is computed over the whole table
 abbrev pub known : List (ℕ × ℕ) → Bool

@@ -13,7 +13,7 @@ ghost use Rattle.std.proofs.lemmas.Bool.{cond-false, lt-leb};
 use text::{CountingRule, LAST_CODE_POINT};
 
 /// Wide characters weigh 2 and every other code point 1.
-#[derive(Clone, Copy)]
+#[derive(Clone, Copy, Debug, Default, PartialEq, Eq)]
 pub struct WideTwice;
 
 impl CountingRule for WideTwice {

@@ -1,5 +1,5 @@
 -- The largest exponent, from the leading zeros of a quotient.
-use Rattle.std.proofs.Common.{◌≡◌, ℕ, suc, ◌+◌, ◌-◌, ◌*◌, ◌/◌, ◌^◌, ◌<◌, ◌≤◌, ◌⊎◌, sym, subst, inl, inr, mul-le-mul_right, mul_comm, div-lt_iff_lt-mul, mul-le-mul, mul-le-mul_left, le-div_iff_mul-le, div-le_self, add-one, arith, pow_mono}
+use Rattle.std.proofs.Common.{◌≡◌, ℕ, suc, ◌+◌, ◌-◌, ◌*◌, ◌/◌, ◌^◌, ◌<◌, ◌≤◌, ◌⊎◌, sym, subst, inl, inr, mul-le-mul_right, mul_comm, div-lt_iff_lt-mul, mul-le-mul_left, le-div_iff_mul-le, div-le_self, add-one, arith, pow_mono}
 use lib.Count.{leading_top, count_leading_zeros}
 use Rattle.std.proofs.lemmas.Bool.{cases_lt}
 use Rattle.theory.specs.Arrivals.{Largest}
@@ -48,7 +48,3 @@ at_most_30 l m r one h lt = go (cases_lt 30 r)
         let p : 2 ^ 31 ≤ 2 ^ r = pow_mono k in
         let d : 2 ^ 30 ≤ 2 ^ r - 1 = omega (arith, p) in
         absurd (omega (arith, lt, h, mul-le-mul_right (2 ^ r - 1) one))
-
--- a product of two numbers within their limits
-pub product : (N R : ℕ) → 1 ≤ N → N ≤ 1048576 → 1 ≤ R → R ≤ 1024 → (1 ≤ N * R) × (N * R ≤ 2 ^ 30)
-product N R a b c d = (mul-le-mul a c, mul-le-mul b d)

@@ -1,4 +1,3 @@
-pub mod BitLaws
 pub mod EnterLaws
 pub mod ExponentLaws
 pub mod InsertLaws
@@ -7,4 +6,3 @@ pub mod RaiseLaws
 pub mod StretchLaws
 pub mod SurveyLaws
 pub mod TailLaws
-pub mod ZeroLaws

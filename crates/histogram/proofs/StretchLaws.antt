@@ -1,14 +1,15 @@
 -- A sound stretch as a test and as facts.
-use Rattle.std.proofs.Common.{◌≡◌, ℕ, suc, ◌+◌, ◌*◌, ◌<◌, ◌≤◌, Bool, true, false, ◌&&◌, leb, List, [], ◌∷◌, length, take, drop, Some, None, Option, sym, refl, ap, ◌∙◌, subst, arith}
+use Rattle.std.proofs.Common.{◌≡◌, ℕ, suc, ◌+◌, ◌*◌, ◌<◌, ◌≤◌, true, false, ◌&&◌, leb, List, [], ◌∷◌, length, take, drop, Some, None, sym, refl, ap, subst, arith}
 use Rattle.histogram.proofs.SurveyLaws.{all_lives, lives_all}
-use Rattle.histogram.specs.Surveys.{Bracketed, figures, lives, surveyed, told}
+use Rattle.histogram.specs.Histogram.{is_sound}
+use Rattle.histogram.specs.Surveys.{Bracketed, figures, held, lives, surveyed, told}
 use Rattle.histogram.specs.Tails.{Tail}
-use Rattle.histogram.specs.declared.settings.Settings.{Settings}
-use Rattle.histogram.specs.declared.surveys.Figures.{Figures}
 use Rattle.histogram.specs.declared.surveys.Survey.{Survey}
-use Rattle.histogram.specs.declared.track.Standing.{Standing}
+use Rattle.histogram.specs.declared.track.Histogram.{Histogram}
+use Rattle.histogram.specs.declared.window.Window.{Window}
 use Rattle.std.proofs.ByRecursion.{All-weaker}
-use Rattle.std.proofs.lemmas.Bool.{and_from, and_parts, cond_both, cond-false, cond-true, le-leb, leb-true}
+use Rattle.std.proofs.lemmas.Bool.{and_from, and_parts, false_from_ne_true, le-leb, leb-true}
+use Rattle.std.proofs.lemmas.Option.{cond_some}
 use Rattle.std.specs.List.{AllByRecursion}
 use Rattle.theory.proofs.FormLaws.{formed_levels}
 use Rattle.theory.proofs.FullLaws.{flat_small}
@@ -17,7 +18,7 @@ use Rattle.theory.proofs.LevelLaws.{levels_of}
 use Rattle.theory.proofs.SoundLaws.{formed_from, formed_says, rise_says, sound_from, sound_says}
 use Rattle.theory.proofs.Views.{Formed}
 use Rattle.theory.specs.Arrivals.{Falling}
-use Rattle.theory.specs.Buckets.{high, low, stamps, within}
+use Rattle.theory.specs.Buckets.{high, low, oldest, stamps, total}
 use Rattle.theory.specs.Levels.{Canonical, flat, row}
 use Rattle.theory.specs.Sound.{every, filled, formed, is_zero, never_rise, sound, sound_buckets, start_at_zero}
 use Rattle.theory.specs.declared.entries.Entry.{Entry}
@@ -102,54 +103,43 @@ tail_buckets l r N own bs t h =
     let g = formed_says l own bs f.form in
     sound_from l r N own bs (record { form = g.0; arrived = g.1; live = lives_all N own own bs t.falls h; small = f.small })
 
--- a stretch that is not sound
-pub not_sound : (l r N own b : ℕ) (xs : List Entry) → (StretchFacts l r N own b xs → ⊥) → sound l r N own b xs ≡ false
-not_sound l r N own b xs h = not_yes (sound l r N own b xs) (λ e. h (stretch_says l r N own b xs e))
-  where
-    not_yes : (t : Bool) → (t ≡ true → ⊥) → t ≡ false
-    not_yes true f = absurd (f refl)
-    not_yes false f = refl
-
 -- what a survey is, by whether the stretch is sound
-module _ (s : Settings) (track : Standing) (W a : ℕ) (xs : List Entry) where
+module _ (h : Histogram) (w : Window) (xs : List Entry) where
   abbrev pub Facts : Type 0
-  Facts = StretchFacts s.half s.top s.window track.tick track.buckets xs
+  Facts = StretchFacts h.settings.half h.settings.top h.settings.window h.standing.tick h.standing.buckets xs
 
-  pub surveyed_none : (Facts → ⊥) → None ≡ surveyed s track W a xs
-  surveyed_none h =
-      sym (cond-false (sound s.half s.top s.window track.tick track.buckets xs)
-      (Some (told (within W a (take track.buckets xs)))) None
-      (not_sound s.half s.top s.window track.tick track.buckets xs h))
+  pub surveyed_none : (Facts → ⊥) → None ≡ surveyed h w xs
+  surveyed_none f =
+      let no : is_sound h xs ≡ false = false_from_ne_true (is_sound h xs)
+      (λ y. f (stretch_says h.settings.half h.settings.top h.settings.window h.standing.tick h.standing.buckets xs y)) in
+      rw no refl
 
-  pub surveyed-some : Facts → Some (told (within W a (take track.buckets xs))) ≡ surveyed s track W a xs
+  pub surveyed-some : Facts → Some (told (held h w xs)) ≡ surveyed h w xs
   surveyed-some f =
-      sym (cond-true (sound s.half s.top s.window track.tick track.buckets xs)
-      (Some (told (within W a (take track.buckets xs)))) None
-      (stretch_from s.half s.top s.window track.tick track.buckets xs f))
+      let sure : is_sound h xs ≡ true = stretch_from h.settings.half h.settings.top h.settings.window h.standing.tick h.standing.buckets xs f in
+      rw sure refl
 
-  -- a survey tells that the stretch is sound
-  abbrev pub Says : Option Survey → Type 0
-  Says (Some v) = (sound s.half s.top s.window track.tick track.buckets xs ≡ true) × (v ≡ told (within W a (take track.buckets xs)))
-  Says None = Unit {0}
+  -- what a survey tells
+  pub record Tells (v : Survey) : Type 0 where
+    pub sound : is_sound h xs ≡ true
+    pub many : v.buckets ≡ length (held h w xs)
+    pub sizes : v.sizes ≡ total (held h w xs)
+    pub old : v.oldest ≡ oldest 0 (held h w xs)
 
-  pub surveyed_says : (o : Option Survey) → o ≡ surveyed s track W a xs → Says o
-  surveyed_says o e =
-      subst Says (sym e) (cond_both (sound s.half s.top s.window track.tick track.buckets xs)
-      (Some (told (within W a (take track.buckets xs)))) None Says
-      (λ t. (t, refl)) (λ _. tt))
+  pub survey_tells : (v : Survey) → Some v ≡ surveyed h w xs → Tells v
+  survey_tells v q =
+      let e = cond_some (is_sound h xs) (told (held h w xs)) v (sym q) in
+      record {
+        sound = e.0;
+        many = ap (λ (s : Survey). s.buckets) (sym e.1);
+        sizes = ap (λ (s : Survey). s.sizes) (sym e.1);
+        old = ap (λ (s : Survey). s.oldest) (sym e.1);
+      }
 
-  -- low and high of the buckets in the window
-  abbrev pub figures_of : Figures
-  figures_of = record { low = low (within W a (take track.buckets xs)); high = high (within W a (take track.buckets xs)) }
-
-  pub figures-some : sound s.half s.top s.window track.tick track.buckets xs ≡ true → Some figures_of ≡ figures s track W a xs
-  figures-some t = sym (cond-true (sound s.half s.top s.window track.tick track.buckets xs) (Some figures_of) None t)
-
-  -- figures that are low and high of those buckets are the stated ones, and bracket the truth
-  pub figures_are : (f : Figures) → sound s.half s.top s.window track.tick track.buckets xs ≡ true → f ≡ figures_of
-      → (Some f ≡ figures s track W a xs) × Bracketed s track W a xs (Some f)
-  figures_are f t e = (
-    ap {B = Option Figures} (λ (g : Figures). Some g) e ∙ figures-some t,
-    subst (λ (g : Figures). Bracketed s track W a xs (Some g)) (sym e)
-        (λ us k wn ta. brackets_truth s.half s.window track.tick us (take track.buckets xs) W a k wn ta),
+  -- figures that are low and high of the buckets in the window are the stated ones, and bracket the truth
+  pub figures_are : (l m : ℕ) → is_sound h xs ≡ true → l ≡ low (held h w xs) → m ≡ high (held h w xs)
+      → (Some (record { low = l; high = m }) ≡ figures h w xs) × Bracketed h w xs (Some (record { low = l; high = m }))
+  figures_are l m sure p q = rw (p, q) (
+    rw sure refl,
+    λ us k wn ta. brackets_truth h.settings.half h.settings.window h.standing.tick us (take h.standing.buckets xs) w.ticks w.at k wn ta,
   )

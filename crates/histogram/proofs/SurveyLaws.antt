@@ -1,36 +1,39 @@
 -- What the oldest bucket tells of all, and which buckets are in a window.
-use Rattle.std.proofs.Common.{◌≡◌, ℕ, zero, suc, ◌+◌, ◌-◌, ◌<◌, ◌≤◌, true, false, ltb, leb, List, [], ◌∷◌, ◌++◌, length, get_or, take, sym, refl, ap, ◌∙◌, subst, arith, pow_pos}
-use Rattle.histogram.proofs.TailLaws.{total-append}
-use Rattle.histogram.specs.Surveys.{lives}
-use Rattle.std.proofs.lemmas.List.Elements.{filter-append}
-use Rattle.std.proofs.lemmas.List.{append-nil, take_more}
+use Rattle.std.proofs.Common.{◌≡◌, ℕ, zero, suc, ◌+◌, ◌-◌, ◌<◌, ◌≤◌, Bool, true, false, ltb, leb, List, [], ◌∷◌, length, get_or, slice_get, take, Option, sym, refl, ap, ◌∙◌, subst, arith, pow_pos, MatchOption}
+use Rattle.histogram.specs.Surveys.{holds, lives}
+use Rattle.histogram.specs.declared.window.Window.{Window}
 use Rattle.std.proofs.lemmas.Bool.{and_parts, cond-false, cond-true, leb-true, lt-ltb, ltb-true}
-use Rattle.std.specs.List.{AllByRecursion}
+use Rattle.std.proofs.lemmas.List.Recursion.{is_sum_by}
+use Rattle.std.specs.List.{AllByRecursion, AllWithin, sum_by}
+use Rattle.std.specs.List.Sorted.{IsPartitionedBy}
 use Rattle.theory.specs.Arrivals.{Falling}
 use Rattle.theory.specs.Buckets.{low, oldest, size, stamps, total, within}
 use Rattle.theory.specs.Sound.{never_rise}
 use Rattle.theory.specs.declared.entries.Entry.{Entry}
 
 -- the oldest bucket, by its place
-lives-last : (N own : ℕ) (b : Entry) (bs : List Entry) (d : Entry) → lives N own (b ∷ bs) ≡ ltb own ((get_or (b ∷ bs) (length bs) d).stamp + N)
-lives-last N own b [] d = refl
-lives-last N own b (c ∷ bs) d = lives-last N own c bs d
+last_get : (b c : Entry) (bs : List Entry)
+    → slice_get (b ∷ (c ∷ bs)) (length (b ∷ (c ∷ bs)) - 1) ≡ slice_get (c ∷ bs) (length (c ∷ bs) - 1)
+last_get b c bs =
+    let e : length (b ∷ (c ∷ bs)) - 1 ≡ suc (length bs) = omega arith in
+    let f : length (c ∷ bs) - 1 ≡ length bs = omega arith in
+    ap (slice_get (b ∷ (c ∷ bs))) e ∙ ap (slice_get (c ∷ bs)) (sym f)
 
-pub lives_at : (N own : ℕ) (bs : List Entry) (d : Entry) → 1 ≤ length bs → lives N own bs ≡ ltb own ((get_or bs (length bs - 1) d).stamp + N)
-lives_at N own [] d h = absurd (omega arith)
-lives_at N own (b ∷ bs) d h =
-    let e : length bs ≡ suc (length bs) - 1 = omega arith in
-    lives-last N own b bs d ∙ ap (λ (k : ℕ). ltb own ((get_or (b ∷ bs) k d).stamp + N)) e
+pub lives_get : (N own : ℕ) (bs : List Entry) (o : Option Entry) (r : Bool) → o ≡ slice_get bs (length bs - 1)
+    → MatchOption o (r ≡ true) (λ b. r ≡ ltb own (b.stamp + N)) → r ≡ lives N own bs
+lives_get N own [] o r e h = subst (λ (o : Option Entry). MatchOption o (r ≡ true) (λ b. r ≡ ltb own (b.stamp + N))) e h
+lives_get N own (b ∷ []) o r e h = subst (λ (o : Option Entry). MatchOption o (r ≡ true) (λ b. r ≡ ltb own (b.stamp + N))) e h
+lives_get N own (b ∷ (c ∷ bs)) o r e h = lives_get N own (c ∷ bs) o r (e ∙ last_get b c bs) h
 
-oldest_of : (c i : ℕ) (bs : List Entry) (d : Entry) → i < length bs → oldest c (take (suc i) bs) ≡ size (get_or bs i d)
-oldest_of c i [] d h = absurd (omega arith)
-oldest_of c zero (b ∷ bs) d h = refl
-oldest_of c (suc i) (b ∷ bs) d h = oldest_of (size b) i bs d (omega arith)
+oldest_some : (none : Type 0) (n : ℕ) (b : Entry) (bs : List Entry) (o : Option Entry) (r : ℕ) → o ≡ slice_get (b ∷ bs) (length (b ∷ bs) - 1)
+    → MatchOption o none (λ x. r ≡ size x) → r ≡ oldest n (b ∷ bs)
+oldest_some none n b [] o r e h = subst (λ (o : Option Entry). MatchOption o none (λ x. r ≡ size x)) e h
+oldest_some none n b (c ∷ bs) o r e h = oldest_some none (size b) c bs o r (e ∙ last_get b c bs) h
 
-pub oldest_at : (c n : ℕ) (bs : List Entry) (d : Entry) → 1 ≤ n → n ≤ length bs → oldest c (take n bs) ≡ size (get_or bs (n - 1) d)
-oldest_at c n bs d h g =
-    let e : n ≡ suc (n - 1) = omega arith in
-    ap (λ (k : ℕ). oldest c (take k bs)) e ∙ oldest_of c (n - 1) bs d (omega arith)
+pub oldest_get : (n : ℕ) (bs : List Entry) (o : Option Entry) (r : ℕ) → o ≡ slice_get bs (length bs - 1)
+    → MatchOption o (r ≡ n) (λ b. r ≡ size b) → r ≡ oldest n bs
+oldest_get n [] o r e h = subst (λ (o : Option Entry). MatchOption o (r ≡ n) (λ b. r ≡ size b)) e h
+oldest_get n (b ∷ bs) o r e h = oldest_some (r ≡ n) n b bs o r e h
 
 -- if the oldest lives, all do
 all_live : (N own s : ℕ) (b : Entry) (bs : List Entry) → never_rise s (b ∷ bs) ≡ true → lives N own (b ∷ bs) ≡ true
@@ -52,55 +55,37 @@ all_lives N own (b ∷ []) h = lt-ltb own (b.stamp + N) h.0
 all_lives N own (b ∷ (c ∷ bs)) h = all_lives N own (c ∷ bs) h.1
 
 -- buckets outside a window are the last
-split_last : (bs : List Entry) (n : ℕ) (d : Entry) → 0 < n → n ≤ length bs → take n bs ≡ take (n - 1) bs ++ get_or bs (n - 1) d ∷ []
-split_last bs n d h k = let e : (n - 1) + 1 ≡ n = omega arith in ap (λ (z : ℕ). take z bs) (sym e) ∙ take_more bs (n - 1) d (omega arith)
+below_at : (s : ℕ) (bs : List Entry) → AllByRecursion (λ u. u ≤ s) (stamps bs) → (k : ℕ) (d : Entry) → k < length bs → (get_or bs k d).stamp ≤ s
+below_at s [] b k d h = absurd (omega arith)
+below_at s (x ∷ bs) b zero d h = b.0
+below_at s (x ∷ bs) b (suc k) d h = below_at s bs b.1 k d (omega arith)
 
-module _ (W a : ℕ) where
-  pub drop-last : (bs : List Entry) (n : ℕ) (d : Entry) → 0 < n → n ≤ length bs → ltb a ((get_or bs (n - 1) d).stamp + W) ≡ false
-      → within W a (take (n - 1) bs) ≡ within W a (take n bs)
-  drop-last bs n d h k q =
-      let x : Entry = get_or bs (n - 1) d in
-      let out : within W a (x ∷ []) ≡ [] = cond-false (ltb a (x.stamp + W)) (x ∷ []) [] q in
-      sym (ap (within W a) (split_last bs n d h k) ∙ filter-append (λ (b : Entry). ltb a (b.stamp + W)) (take (n - 1) bs) (x ∷ [])
-      ∙ ap (λ (z : List Entry). within W a (take (n - 1) bs) ++ z) out ∙ append-nil (within W a (take (n - 1) bs)))
+stamps_fall : (bs : List Entry) → Falling (stamps bs) → (i j : ℕ) (d : Entry) → i ≤ j → j < length bs → (get_or bs j d).stamp ≤ (get_or bs i d).stamp
+stamps_fall [] f i j d le h = absurd (omega arith)
+stamps_fall (x ∷ bs) f zero zero d le h = omega arith
+stamps_fall (x ∷ bs) f zero (suc j) d le h = below_at x.stamp bs f.0 j d (omega arith)
+stamps_fall (x ∷ bs) f (suc i) zero d le h = absurd (omega arith)
+stamps_fall (x ∷ bs) f (suc i) (suc j) d le h = stamps_fall bs f.1 i j d (omega arith) (omega arith)
 
-  below_last : (s : ℕ) (ys : List Entry) (x : Entry) → AllByRecursion (λ u. u ≤ s) (stamps (ys ++ x ∷ [])) → x.stamp ≤ s
-  below_last s [] x b = b.0
-  below_last s (y ∷ ys) x b = below_last s ys x b.1
+pub parted : (w : Window) (bs : List Entry) → Falling (stamps bs) → IsPartitionedBy (λ b. holds w b.stamp) bs
+parted w bs f i j d le h held =
+    lt-ltb w.at ((get_or bs i d).stamp + w.ticks)
+    (omega (arith, stamps_fall bs f i j d le h, ltb-true w.at ((get_or bs j d).stamp + w.ticks) held))
 
-  all_within : (ys : List Entry) (x : Entry) → Falling (stamps (ys ++ x ∷ [])) → a < x.stamp + W → within W a (ys ++ x ∷ []) ≡ ys ++ x ∷ []
-  all_within [] x f h = cond-true (ltb a (x.stamp + W)) (x ∷ []) [] (lt-ltb a (x.stamp + W) h)
-  all_within (y ∷ ys) x f h =
-      cond-true (ltb a (y.stamp + W)) (y ∷ within W a (ys ++ x ∷ [])) (within W a (ys ++ x ∷ []))
-      (lt-ltb a (y.stamp + W) (omega (arith, below_last y.stamp ys x f.0)))
-      ∙ ap {B = List Entry} (λ r. y ∷ r) (all_within ys x f.1 h)
+pub front_within : (w : Window) (bs : List Entry) (n : ℕ) → n ≤ length bs
+    → AllWithin (λ b. holds w b.stamp ≡ true) bs 0 n → AllWithin (λ b. holds w b.stamp ≡ false) bs n (length bs)
+    → take n bs ≡ within w.ticks w.at bs
+front_within w [] n le t f = let z : n ≡ 0 = omega arith in ap (λ (k : ℕ). take {A = Entry} k []) z
+front_within w (b ∷ bs) zero le t f =
+    front_within w bs zero (omega arith) (λ k d low high. absurd (omega arith)) (λ k d low high. f (suc k) d (omega arith) (omega arith))
+    ∙ sym (cond-false (holds w b.stamp) (b ∷ within w.ticks w.at bs) (within w.ticks w.at bs) (f 0 b (omega arith) (omega arith)))
+front_within w (b ∷ bs) (suc n) le t f =
+    ap {B = List Entry} (λ r. b ∷ r) (front_within w bs n (omega arith) (λ k d low high. t (suc k) d (omega arith) (omega arith))
+    (λ k d low high. f (suc k) d (omega arith) (omega arith)))
+    ∙ sym (cond-true (holds w b.stamp) (b ∷ within w.ticks w.at bs) (within w.ticks w.at bs) (t 0 b (omega arith) (omega arith)))
 
-  below_take : (s n : ℕ) (bs : List Entry) → AllByRecursion (λ u. u ≤ s) (stamps bs) → AllByRecursion (λ u. u ≤ s) (stamps (take n bs))
-  below_take s zero bs b = tt
-  below_take s (suc n) [] b = tt
-  below_take s (suc n) (x ∷ bs) b = (b.0, below_take s n bs b.1)
-
-  falling_take : (n : ℕ) (bs : List Entry) → Falling (stamps bs) → Falling (stamps (take n bs))
-  falling_take zero bs f = tt
-  falling_take (suc n) [] f = tt
-  falling_take (suc n) (x ∷ bs) f = (below_take x.stamp n bs f.0, falling_take n bs f.1)
-
-  -- up to one that is in the window, all are
-  pub front_within : (bs : List Entry) (n : ℕ) (d : Entry) → Falling (stamps bs) → n ≤ length bs
-      → (0 < n → a < (get_or bs (n - 1) d).stamp + W) → within W a (take n bs) ≡ take n bs
-  front_within bs zero d f k h = refl
-  front_within bs (suc n) d f k h =
-      let s = split_last bs (suc n) d (omega arith) k in
-      ap (within W a) s
-      ∙ all_within (take (suc n - 1) bs) (get_or bs (suc n - 1) d) (subst (λ (z : List Entry). Falling (stamps z)) s
-      (falling_take (suc n) bs f)) (h (omega arith))
-      ∙ sym s
-
-pub total_less : (bs : List Entry) (n : ℕ) (d : Entry) → 0 < n → n ≤ length bs
-    → total (take n bs) ≡ total (take (n - 1) bs) + size (get_or bs (n - 1) d)
-total_less bs n d h k =
-    ap total (split_last bs n d h k) ∙ total-append (take (n - 1) bs) (get_or bs (n - 1) d ∷ [])
-    ∙ omega arith
+pub total-sum : (bs : List Entry) → total bs ≡ sum_by size bs
+total-sum bs = is_sum_by total size refl (λ _ _. refl) bs
 
 -- low, from how many buckets, the sum of their sizes and the oldest
 pub oldest_le : (c : ℕ) (bs : List Entry) → oldest c bs ≤ c + total bs

@@ -1,11 +1,12 @@
 -- The pass over the levels: what one level tells of the buckets from it on.
-use Rattle.std.proofs.Common.{◌≡◌, ℕ, zero, suc, ◌+◌, ◌-◌, ◌*◌, ◌%◌, ◌^◌, ◌<◌, ◌≤◌, Bool, true, false, ◌&&◌, eqb, leb, ◌⊎◌, List, [], ◌∷◌, ◌++◌, length, get_or, take, drop, sym, refl, ap, ◌∙◌, subst, ap₂, inl, inr, mul-le-mul_right, mul-le-mul, add-one, arith, pow_mono}
+use Rattle.std.proofs.Common.{◌≡◌, ℕ, zero, suc, ◌+◌, ◌-◌, ◌*◌, ◌%◌, ◌^◌, ◌<◌, ◌≤◌, Bool, true, false, cond, ◌&&◌, eqb, leb, ◌⊎◌, List, [], ◌∷◌, ◌++◌, length, get_or, take, drop, Some, None, Option, sym, refl, ap, ◌∙◌, subst, ap₂, inl, inr, mul-le-mul_right, mul-le-mul, add-one, arith, pow_mono}
 use native.Mathlib.Nat.{two-pow-succ}
 use Rattle.histogram.proofs.RaiseLaws.{drop-row}
 use Rattle.histogram.specs.Raising.{of_size}
-use Rattle.histogram.specs.Tails.{Level, Tail, levelled}
-use Rattle.std.proofs.lemmas.List.{get_or-take, length-drop, length-take-le, take-append-drop, take_more}
-use Rattle.std.proofs.lemmas.Bool.{and_from, and_left, and_parts, and_right, cases_lt, eq-eqb, eqb-true, le-leb, leb-true, lt-leb, ne_eqb}
+use Rattle.histogram.specs.Tails.{Level, Tail, level_end, levelled}
+use Rattle.std.proofs.lemmas.List.{drop_more, get_or-take, length-drop, length-take-le, take-append-drop, take_more}
+use Rattle.std.proofs.lemmas.Bool.{and_from, and_parts, cases_lt, cond-true, eq-eqb, eqb-true, le-leb, leb-true}
+use Rattle.std.proofs.lemmas.Option.{cond_some, none-some}
 use Rattle.theory.proofs.TopLaws.{length-row}
 use Rattle.theory.specs.Buckets.{stamps, total}
 use Rattle.theory.specs.Levels.{Canonical, Filled, flat, row}
@@ -13,24 +14,29 @@ use Rattle.theory.specs.Sound.{never_rise, zero_entry}
 use Rattle.theory.specs.declared.entries.Entry.{Entry}
 
 -- one bucket of a level
-pub level_yes : (e last : ℕ) (b : Entry) (bs all : List Entry) → all ≡ b ∷ bs → b.exponent ≡ e → b.stamp ≤ last
-    → levelled e last all ≡ levelled e b.stamp bs
-level_yes e last b bs all q x s =
-    ap (levelled e last) q
-    ∙ ap₂ (λ (p t : Bool). (p && t) && levelled e b.stamp bs) (eq-eqb b.exponent e x) (le-leb b.stamp last s)
-
-pub level_no : (e last : ℕ) (b : Entry) (bs all : List Entry) → all ≡ b ∷ bs → (b.exponent ≡ e → ⊥) ⊎ (last < b.stamp)
-    → levelled e last all ≡ false
-level_no e last b bs all q (inl x) =
-    ap (levelled e last) q ∙ ap (λ (p : Bool). (p && leb b.stamp last) && levelled e b.stamp bs) (ne_eqb b.exponent e x)
-level_no e last b bs all q (inr s) =
-    ap (levelled e last) q ∙ and_left (eqb b.exponent e && leb b.stamp last) (levelled e b.stamp bs)
-    (and_right (eqb b.exponent e) (leb b.stamp last) (lt-leb b.stamp last s))
+level_yes : (e last : ℕ) (b : Entry) (bs : List Entry) → b.exponent ≡ e → b.stamp ≤ last → levelled e last (b ∷ bs) ≡ levelled e b.stamp bs
+level_yes e last b bs x s = ap₂ (λ (p t : Bool). (p && t) && levelled e b.stamp bs) (eq-eqb b.exponent e x) (le-leb b.stamp last s)
 
 -- the stamp before what follows xs
 abbrev pub last_stamp : ℕ → List Entry → ℕ
 last_stamp s [] = s
 last_stamp s (b ∷ bs) = last_stamp b.stamp bs
+
+level_ends : (e s : ℕ) (xs : List Entry) → level_end e s xs ≡ cond (levelled e s xs) (Some (last_stamp s xs)) None
+level_ends e s [] = refl
+level_ends e s (x ∷ xs) = join (eqb x.exponent e && leb x.stamp s) (levelled e x.stamp xs) (last_stamp x.stamp xs) (level_end e x.stamp xs)
+    (level_ends e x.stamp xs)
+  where
+    join : (p q : Bool) (t : ℕ) (o : Option ℕ) → o ≡ cond q (Some t) None → cond p o None ≡ cond (p && q) (Some t) None
+    join true q t o h = h
+    join false q t o h = refl
+
+-- what the end of a level tells
+pub level_end_some : (e s t : ℕ) (xs : List Entry) → Some t ≡ level_end e s xs → (levelled e s xs ≡ true) × (last_stamp s xs ≡ t)
+level_end_some e s t xs h = cond_some (levelled e s xs) (last_stamp s xs) t (sym (h ∙ level_ends e s xs))
+
+pub level_end_none : (e s : ℕ) (xs : List Entry) → None ≡ level_end e s xs → levelled e s xs ≡ true → ⊥
+level_end_none e s xs h y = none-some (last_stamp s xs) (h ∙ level_ends e s xs ∙ cond-true (levelled e s xs) (Some (last_stamp s xs)) None y)
 
 last_of : (s i : ℕ) (rest : List Entry) (d : Entry) → i < length rest → last_stamp s (take (suc i) rest) ≡ (get_or rest i d).stamp
 last_of s i [] d h = absurd (omega arith)
@@ -71,18 +77,17 @@ level-row e s (x ∷ xs) h =
 
 level-push : (e s : ℕ) (xs : List Entry) (x : Entry) → levelled e s xs ≡ true → x.exponent ≡ e → x.stamp ≤ last_stamp s xs
     → levelled e s (xs ++ x ∷ []) ≡ true
-level-push e s [] x h q le = level_yes e s x [] (x ∷ []) refl q le
+level-push e s [] x h q le = level_yes e s x [] q le
 level-push e s (y ∷ xs) x h q le =
     let w = level_says e s y xs h in
-    level_yes e s y (xs ++ x ∷ []) (y ∷ (xs ++ x ∷ [])) refl w.same (leb-true y.stamp s w.falls) ∙ level-push e y.stamp xs x
+    level_yes e s y (xs ++ x ∷ []) w.same (leb-true y.stamp s w.falls) ∙ level-push e y.stamp xs x
     w.rest q le
 
 -- one bucket more of the level
-pub level_more : (e s n : ℕ) (rest : List Entry) (d : Entry) → levelled e s (take n rest) ≡ true → 1 ≤ n → n < length rest
-    → (get_or rest n d).exponent ≡ e → (get_or rest n d).stamp ≤ (get_or rest (n - 1) d).stamp → levelled e s (take (n + 1) rest) ≡ true
-level_more e s n rest d h some lt q le =
-    ap (levelled e s) (take_more rest n d lt)
-    ∙ level-push e s (take n rest) (get_or rest n d) h q (subst (λ (x : ℕ). (get_or rest n d).stamp ≤ x) (sym (last_at s n rest d some (omega arith))) le)
+pub level_more : (e s n : ℕ) (rest : List Entry) (d : Entry) → levelled e s (take n rest) ≡ true → n < length rest
+    → (get_or rest n d).exponent ≡ e → (get_or rest n d).stamp ≤ last_stamp s (take n rest) → levelled e s (take (n + 1) rest) ≡ true
+level_more e s n rest d h lt q le =
+    ap (levelled e s) (take_more rest n d lt) ∙ level-push e s (take n rest) (get_or rest n d) h q le
 
 level_at : (e s : ℕ) (xs : List Entry) (k : ℕ) (d : Entry) → levelled e s xs ≡ true → k < length xs → (get_or xs k d).exponent ≡ e
 level_at e s [] k d h lt = absurd (omega arith)
@@ -147,25 +152,20 @@ tail_front l r e s rest t m a b = go t.levels t.whole t.canonical t.falls
         (row_front e s ss (flat (suc e) more) m (short_level l e ss more c.2 m a (omega (arith, ap length w)))
         (subst (λ (xs : List Entry). never_rise s xs ≡ true) w f))
 
--- stamps of neighbours
-pub rise_at : (s : ℕ) (xs : List Entry) → never_rise s xs ≡ true → (k : ℕ) (d : Entry) → suc k < length xs
-    → (get_or xs (suc k) d).stamp ≤ (get_or xs k d).stamp
-rise_at s [] h k d lt = absurd (omega arith)
-rise_at s (x ∷ []) h k d lt = absurd (omega arith)
-rise_at s (x ∷ (y ∷ xs)) h zero d lt =
-    leb-true y.stamp x.stamp (and_parts (leb y.stamp x.stamp) (never_rise y.stamp xs)
-    (and_parts (leb x.stamp s) (never_rise x.stamp (y ∷ xs)) h).1).0
-rise_at s (x ∷ (y ∷ xs)) h (suc k) d lt =
-    rise_at x.stamp (y ∷ xs) (and_parts (leb x.stamp s) (never_rise x.stamp (y ∷ xs)) h).1 k d (omega arith)
-
 -- a stamp that rises
-pub tail_rises : (l r e s n : ℕ) (rest : List Entry) (d : Entry) → 1 ≤ n → n < length rest
-    → (get_or rest (n - 1) d).stamp < (get_or rest n d).stamp → Tail l r e s rest → ⊥
-tail_rises l r e s n rest d some lt up t =
-    let one : suc (n - 1) ≡ n = omega arith in
-    let le : (get_or rest n d).stamp ≤ (get_or rest (n - 1) d).stamp = subst (λ (k : ℕ). (get_or rest k d).stamp ≤ (get_or rest (n - 1) d).stamp) one
-    (rise_at s rest t.falls (n - 1) d (omega arith)) in
-    omega (arith, le, up)
+pub tail_rises : (l r e s n : ℕ) (rest : List Entry) (d : Entry) → n < length rest
+    → last_stamp s (take n rest) < (get_or rest n d).stamp → Tail l r e s rest → ⊥
+tail_rises l r e s n rest d lt up t =
+    let x : Entry = get_or rest n d in
+    let front : never_rise (last_stamp s (take n rest)) (x ∷ drop (n + 1) rest) ≡ true =
+    ap (never_rise (last_stamp s (take n rest))) (sym (drop_more rest n d lt))
+    ∙ rise_split s (take n rest) (drop n rest) (ap (never_rise s) (take-append-drop n rest) ∙ t.falls) in
+    omega (
+      arith,
+      up,
+      leb-true x.stamp (last_stamp s (take n rest))
+          (and_parts (leb x.stamp (last_stamp s (take n rest))) (never_rise x.stamp (drop (n + 1) rest)) front).0,
+    )
 
 -- one level on, and back
 module _ (l r e s n : ℕ) (rest : List Entry) (v : Level l e s rest n) where

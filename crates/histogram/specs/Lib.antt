@@ -1,4 +1,5 @@
 pub mod Entering
+pub mod Histogram
 pub mod Raising
 pub mod Settings
 pub mod Surveys

@@ -1,8 +1,8 @@
 -- Which settings there are, and what they ask of a stretch.
 use Rattle.std.specs.Prelude.{◌≡◌, ℕ, ◌+◌, ◌*◌, ◌%◌, ◌≤◌, ◌⊎◌, Some, None, Ok, Err, Option, Result}
 use Rattle.theory.specs.Arrivals.{Largest}
-use Rattle.histogram.specs.declared.opening.SettingsFault.{SettingsFault}
-use Rattle.histogram.specs.declared.opening.SettingsFault.TheVariants.{K, Window, Cap}
+use Rattle.histogram.specs.declared.settings.SettingsFault.{SettingsFault}
+use Rattle.histogram.specs.declared.settings.SettingsFault.TheVariants.{K, Window, Cap}
 use Rattle.histogram.specs.declared.settings.Settings.{Settings}
 
 -- the largest exponent for m arrivals, or none where there is no largest

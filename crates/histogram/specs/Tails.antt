@@ -1,5 +1,5 @@
 -- Words for the pass over the levels of a stretch.
-use Rattle.std.specs.Prelude.{◌≡◌, ℕ, ◌+◌, ◌<◌, ◌≤◌, Bool, true, ◌&&◌, ◌⊎◌, List, [], ◌∷◌, length, take, Some, None, Option, ◌==◌, ◌≢◌, nat_le, slice_index_or}
+use Rattle.std.specs.Prelude.{◌≡◌, ℕ, ◌+◌, ◌<◌, ◌≤◌, Bool, true, cond, ◌&&◌, ◌⊎◌, List, [], ◌∷◌, length, take, Some, None, Option, ◌==◌, ◌≢◌, nat_le, slice_index_or}
 use Rattle.theory.specs.Buckets.{total}
 use Rattle.theory.specs.Levels.{flat, Canonical}
 use Rattle.theory.specs.Sound.{never_rise, zero_entry}
@@ -9,6 +9,11 @@ use Rattle.theory.specs.declared.entries.Entry.{Entry}
 abbrev pub levelled : (e last : ℕ) → List Entry → Bool
 levelled e last [] = true
 levelled e last (b ∷ bs) = (b.exponent == e && nat_le b.stamp last) && levelled e b.stamp bs
+
+-- the stamp of the last, last without any; none where they are not levelled
+abbrev pub level_end : (e last : ℕ) → List Entry → Option ℕ
+level_end e last [] = Some last
+level_end e last (b ∷ bs) = cond (b.exponent == e && nat_le b.stamp last) (level_end e b.stamp bs) None
 
 -- the rest of formed buckets, from exponent e on: canonical levels, none above r, with stamps that never rise from last on
 pub record Tail (l r e last : ℕ) (rest : List Entry) : Type 0 where

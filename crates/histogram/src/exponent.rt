@@ -17,9 +17,5 @@ pub(crate) fn exponent_for(half: u64, arrivals: u64) -> u32
 pub fn largest_exponent(half: u64, arrivals: u64) -> Option<u32>
     ensures value { Exponent half arrivals result }
 {
-    if half == 0 || arrivals == 0 {
-        None
-    } else {
-        Some(exponent_for(half, arrivals))
-    }
+    (half != 0 && arrivals != 0).then(|| exponent_for(half, arrivals))
 }

@@ -3,16 +3,18 @@
 //! Each level takes in what the level below hands up: `new` buckets of the tick, and some older stamps. Of these and its
 //! own buckets the newest stay, and the newer of each pair of the rest goes up. The stretch is read on the way up and
 //! written on the way back, so that nothing is overwritten before it is read.
-ghost use Rattle.std.specs.Prelude.{◌≡◌, ℕ, ◌+◌, ◌-◌, ◌*◌, ◌^◌, ◌<◌, ◌≤◌, true, List, ◌++◌, map, length, take, drop, replicate};
+ghost use Rattle.std.specs.Prelude.{◌≡◌, ℕ, ◌+◌, ◌-◌, ◌*◌, ◌≤◌, true, List, ◌++◌, map, length, take, drop, replicate};
+ghost use Rattle.arrayvec.specs.ArrayVec.{array_vec_len};
 ghost use Rattle.theory.specs.Buckets.{insertions, total, closing_figure};
 ghost use Rattle.theory.specs.Levels.{newer, staying};
 ghost use Rattle.theory.specs.Sound.{every, is_zero, formed};
 ghost use Rattle.histogram.specs.Entering.{padded};
+ghost use Rattle.histogram.specs.declared.inserting.TheConstants.{MOST_HELD};
 ghost use Rattle.histogram.specs.Raising.{laid, of_size, own_of, raised, Ready};
 
-use super::moves::{move_to, zero};
 use super::settings::Settings;
-use theory::Entry;
+use arrayvec::ArrayVec;
+use theory::{Entry, NO_BUCKET};
 
 /// The most stamps that a level holds at once: l + 1 from below and l + 1 of its own, with l up to 16.
 const MOST_HELD: usize = 34;
@@ -36,122 +38,91 @@ struct Turn {
     new: usize,
 }
 
-/// Writes the newer of each pair of `olds` into `held`; answers how many.
-fn halve(olds: &[u64], held: &mut [u64]) -> usize
-    requires room { length (newer olds.now) ≤ length held.old }
-    requires short { length olds.now < 2 ^ 62 }
-    ensures holds { take result held.new ≡ newer olds.now }
-    ensures many { result ≡ length (newer olds.now) }
+/// Appends to `held` the newer of each pair of `olds`.
+fn gather_newer(held: &mut ArrayVec<u64, MOST_HELD>, olds: &[u64])
+    requires room { array_vec_len held.old + length (newer olds.now) ≤ MOST_HELD }
+    ensures holds { held.new.items ≡ held.old.items ++ newer olds.now }
 {
-    let mut n = 0;
-    while 2 * n < olds.len() {
-        held[n] = olds[2 * n];
-        n += 1;
-    }
-    n
-}
-
-/// Appends the stamps of the buckets of exponent `e` at the front of `stretch[read..end]` to the first `c` of `held`.
-fn gather(stretch: &[Entry], read: usize, end: usize, e: u64, held: &mut [u64], c: usize) -> usize
-    requires places { (read ≤ end) × (end ≤ length stretch.now) }
-    requires room { c + length (own_of e (drop read (take end stretch.now))) ≤ length held.old }
-    ensures holds { take result held.new ≡ take c held.old ++ own_of e (drop read (take end stretch.now)) }
-    ensures many { result ≡ c + length (own_of e (drop read (take end stretch.now))) }
-    ensures within { read + (result - c) ≤ end }
-{
-    let mut k = read;
-    let mut n = c;
-    while k < end && stretch[k].exponent == e {
-        held[n] = stretch[k].stamp;
-        n += 1;
-        k += 1;
-    }
-    n
-}
-
-/// Writes `new` buckets of stamp `tick` and exponent `e` from `write` on.
-fn put_new(stretch: &mut [Entry], write: usize, e: u64, tick: u64, new: usize)
-    requires room { write + new ≤ length stretch.old }
-    ensures laid { stretch.new ≡ laid write (map (of_size e) (replicate new tick)) stretch.old }
-{
-    for k in 0..new {
-        stretch[write + k] = Entry {
-            stamp: tick,
-            exponent: e,
-        };
+    for pair in olds.chunks(2) {
+        held.push(pair[0]);
     }
 }
 
-/// Writes buckets of the stamps `olds` and exponent `e` from `write` on.
-fn put_olds(stretch: &mut [Entry], write: usize, e: u64, olds: &[u64])
-    requires room { write + length olds.now ≤ length stretch.old }
-    ensures laid { stretch.new ≡ laid write (map (of_size e) olds.now) stretch.old }
+/// Appends to `held` the stamps of the buckets of this exponent at the front of `buckets`.
+fn gather_own(held: &mut ArrayVec<u64, MOST_HELD>, buckets: &[Entry], exponent: u64)
+    requires room { array_vec_len held.old + length (own_of exponent buckets.now) ≤ MOST_HELD }
+    ensures holds { held.new.items ≡ held.old.items ++ own_of exponent buckets.now }
 {
-    for k in 0..olds.len() {
-        stretch[write + k] = Entry {
-            stamp: olds[k],
-            exponent: e,
-        };
+    for bucket in buckets {
+        if bucket.exponent != exponent {
+            return;
+        }
+        held.push(bucket.stamp);
     }
 }
 
-/// Writes `new` buckets of stamp `tick` and then those of the stamps `olds`, all of exponent `e`, from `write` on.
-fn put(stretch: &mut [Entry], write: usize, e: u64, tick: u64, new: usize, olds: &[u64])
-    requires room { write + (new + length olds.now) ≤ length stretch.old }
-    ensures laid { stretch.new ≡ laid write (map (of_size e) (replicate new tick ++ olds.now)) stretch.old }
+/// Fills `place` with `new` buckets of stamp `tick` and then those of the stamps `olds`, all of this exponent.
+fn put(place: &mut [Entry], exponent: u64, tick: u64, new: usize, olds: &[u64])
+    requires room { length place.old ≡ new + length olds.now }
+    ensures filled { place.new ≡ map (of_size exponent) (replicate new tick ++ olds.now) }
 {
-    put_new(stretch, write, e, tick, new);
-    put_olds(stretch, write + new, e, olds);
+    place[..new].fill(Entry {
+        stamp: tick,
+        exponent,
+    });
+    // By index, since a proof knows only the length of what `iter_mut` has lent.
+    for (k, &stamp) in olds.iter().enumerate() {
+        place[new + k] = Entry { stamp, exponent };
+    }
 }
 
 /// How many of `n` buckets of a level stay there; the rest goes up in pairs.
 fn stays(n: usize, half: usize) -> usize
     ensures value { result ≡ staying half n }
 {
-    if n > half {
-        n - 2 * ((n - half) / 2)
-    } else {
-        n
-    }
+    n - 2 * (n.saturating_sub(half) / 2)
 }
 
 /// The level whose turn it is and all above it, into which its new buckets and the newer of each pair of `olds` come.
 /// Answers where the buckets end then.
 fn raise(stretch: &mut [Entry], turn: Turn, olds: &[u64]) -> usize
-    requires sizes { (1 ≤ turn.half) × ((turn.half ≤ 16) × ((turn.new ≤ 65536) × (length olds.now ≤ 2 * turn.half + 2))) }
+    requires half { (1 ≤ turn.half) × (turn.half ≤ 16) }
+    requires new { turn.new ≤ 65536 }
+    requires olds { length olds.now ≤ 2 * turn.half + 2 }
     requires places { (turn.read ≤ turn.end) × (turn.end ≤ length stretch.old) }
-    requires ready { (levels : List (List ℕ)) × Ready turn.half turn.tick turn.new turn.exponent turn.write turn.read turn.end olds.now stretch.old levels }
-    ensures raised { (levels : List (List ℕ)) → Ready turn.half turn.tick turn.new turn.exponent turn.write turn.read turn.end olds.now stretch.old levels
-        → (stretch.new ≡ laid turn.write (raised turn.half turn.tick turn.new turn.exponent olds.now levels) stretch.old)
-        × (result ≡ turn.write + length (raised turn.half turn.tick turn.new turn.exponent olds.now levels)) }
+    requires ready { (levels : List (List ℕ)) × Ready turn olds.now stretch.old levels }
+    ensures raised { (levels : List (List ℕ)) → Ready turn olds.now stretch.old levels
+        → (stretch.new ≡ laid turn.write (raised turn olds.now levels) stretch.old)
+        × (result ≡ turn.write + length (raised turn olds.now levels)) }
 {
     if turn.new + olds.len() == 0 {
         // Nothing comes in: this level and those above it only move.
-        move_to(stretch, turn.read, turn.end, turn.write);
+        stretch.copy_within(turn.read..turn.end, turn.write);
         return turn.write + (turn.end - turn.read);
     }
-    let mut held = [0u64; MOST_HELD];
-    let came = halve(olds, &mut held);
-    let c = gather(stretch, turn.read, turn.end, turn.exponent, &mut held, came);
-    let stay = stays(turn.new + c, turn.half);
-    let spare = turn.new.saturating_sub(stay);
-    let old = stay.saturating_sub(turn.new);
+    let mut held = ArrayVec::new();
+    gather_newer(&mut held, olds);
+    let came = held.len();
+    gather_own(&mut held, &stretch[turn.read..turn.end], turn.exponent);
+    let own = held.len() - came;
+    let stay = stays(turn.new + held.len(), turn.half);
+    let new = turn.new.min(stay);
+    let old = stay - new;
+    // A last new one that has no other to pair with takes the newest of the older stamps that go.
+    let spare = turn.new - new;
     let above = Turn {
         exponent: turn.exponent + 1,
-        read: turn.read + (c - came),
+        read: turn.read + own,
         write: turn.write + stay,
         new: (spare + 1) / 2,
-        half: turn.half,
-        tick: turn.tick,
-        end: turn.end,
+        ..turn
     };
-    let end = raise(stretch, above, &held[old + spare % 2..c]);
+    let end = raise(stretch, above, &held[old + spare % 2..]);
     put(
-        stretch,
-        turn.write,
+        &mut stretch[turn.write..turn.write + stay],
         turn.exponent,
         turn.tick,
-        turn.new - spare,
+        new,
         &held[..old],
     );
     end
@@ -174,6 +145,7 @@ pub(crate) fn insert(
     ensures after { stretch.new ≡ padded (length stretch.old) (insertions settings.now.half arrivals tick (take kept stretch.old)) }
     ensures many { result ≡ length (insertions settings.now.half arrivals tick (take kept stretch.old)) }
 {
+    // l by a cast: `usize` has no `From<u64>`, and the check proves that it loses nothing.
     let turn = Turn {
         half: settings.half as usize,
         tick,
@@ -184,6 +156,8 @@ pub(crate) fn insert(
         new: arrivals,
     };
     let end = raise(stretch, turn, &[]);
-    zero(stretch, end, buckets);
+    if end < buckets {
+        stretch[end..buckets].fill(NO_BUCKET);
+    }
     end
 }

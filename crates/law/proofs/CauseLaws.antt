@@ -1,19 +1,16 @@
 -- No cause that a history tells is that of an unsound or a full stretch.
-use Rattle.std.proofs.Common.{◌≡◌, ℕ, zero, suc, Bool, List, [], ◌∷◌, Some, None, Ok, Err, Option, Result, sym, refl, subst, arith}
-use Rattle.law.proofs.TestLaws.{when_fails}
-use Rattle.law.specs.Calls.{room_for, text_test}
+use Rattle.std.proofs.Common.{◌≡◌, ℕ, zero, suc, Bool, List, [], ◌∷◌, Some, None, Ok, Err, Option, Result, sym, subst, arith, rules}
+use Rattle.law.specs.Calls.{Outcome, text_test}
 use Rattle.law.specs.Faults.{call_fault_number}
 use Rattle.law.specs.Law.{NotSixteen, act_causes, ask_causes, causes, causes_over, join_causes, refusal_of, slab_cause}
 use Rattle.law.specs.Runs.{Brought, History, Opened, Other, Own, Shut, Since, Standing, since}
 use Rattle.law.specs.Tests.{verdict, when}
 use Rattle.law.specs.Tracks.{Act, At, Ending, Line, Opening, PlainCall, Question, Retiring, Total}
-use Rattle.law.specs.declared.faults.CallFault.TheVariants.{BadCap, BadK, BadLongest, BadWindow, EarlyTick, LateTick, NoRoom, NoSuchTrack, NoWindow, OverCap, SlabLength}
+use Rattle.law.specs.declared.faults.CallFault.TheVariants.{SlabLength}
 use Rattle.law.specs.declared.faults.CallFault.{CallFault}
-use Rattle.law.specs.declared.kinds.Outcome.TheVariants.{Answered, Done, Refused}
-use Rattle.law.specs.declared.kinds.Outcome.{Outcome}
 use Rattle.law.specs.declared.shapes.Shape.{Shape}
+use Rattle.std.proofs.lemmas.Bool.{cond_both}
 use Rattle.std.specs.List.{AllByRecursion}
-use Rattle.text.specs.Texts.{weighed}
 use Rattle.text.specs.declared.faults.TextFault.TheVariants.{Malformed, TooLong}
 use Rattle.text.specs.declared.faults.TextFault.{TextFault}
 
@@ -25,11 +22,7 @@ Fine None = Unit {0}
 Fine (Some fault) = FineFault fault
 
 when_fine : (b : Bool) (fault : CallFault) → FineFault fault → Fine (when b fault)
-when_fine b fault h = go (when b fault) (when_fails b fault Fine h)
-  where
-    go : (o : Option CallFault) → ((other : CallFault) → o ≡ Some other → FineFault other) → Fine o
-    go None f = tt
-    go (Some other) f = f other refl
+when_fine b fault h = cond_both b (Some fault) None Fine (λ _. h) (λ _. tt)
 
 text_fine : (r : Result ℕ TextFault) → Fine (text_test r)
 text_fine (Ok v) = tt
@@ -43,28 +36,16 @@ verdict_fine (Some fault ∷ tests) h = h.0
 
 module _ (s : Shape) (w : ℕ → ℕ) where
   ask_fine : (i a W : ℕ) (x : Since) (rest : List (Option CallFault)) → AllByRecursion Fine rest → AllByRecursion Fine (ask_causes i a W x rest)
-  ask_fine i a W x rest h = (when_fine _ (EarlyTick i) (omega arith), (when_fine _ (BadWindow i) (omega arith), h))
+  ask_fine i a W x rest h = search (rules, when_fine)
 
   act_fine : (i : ℕ) (act : Act) (y : Standing) → AllByRecursion Fine (act_causes s w i act y)
-  act_fine i (Opening t k N R) Shut = (
-    when_fine _ LateTick (omega arith),
-    (
-      when_fine _ BadK (omega arith),
-      (
-        when_fine _ BadLongest (omega arith),
-        (when_fine _ BadCap (omega arith), (when_fine _ (NoRoom (room_for k N R)) (omega arith), tt)),
-      ),
-    ),
-  )
-  act_fine i (Opening t k N R) (Opened x) = (omega arith, tt)
-  act_fine i (Line t text) Shut = (omega arith, tt)
-  act_fine i (Line t text) (Opened x) = (
-    when_fine _ LateTick (omega arith),
-    (when_fine _ (EarlyTick i) (omega arith), (text_fine (weighed w text), (when_fine _ (OverCap i) (omega arith), tt))),
-  )
-  act_fine i (Question a W) Shut = (omega arith, tt)
-  act_fine i (Question a W) (Opened x) = (when_fine _ LateTick (omega arith), ask_fine i a W x [] tt)
-  act_fine i Retiring Shut = (omega arith, tt)
+  act_fine i (Opening t k N R) Shut = search (rules, when_fine)
+  act_fine i (Opening t k N R) (Opened x) = search rules
+  act_fine i (Line t text) Shut = search rules
+  act_fine i (Line t text) (Opened x) = search (rules, when_fine, text_fine)
+  act_fine i (Question a W) Shut = search rules
+  act_fine i (Question a W) (Opened x) = search (rules, when_fine)
+  act_fine i Retiring Shut = search rules
   act_fine i Retiring (Opened x) = tt
 
   join_fine : (i a W : ℕ) (y : Standing) (rest : List (Option CallFault)) → AllByRecursion Fine rest → AllByRecursion Fine (join_causes i a W y rest)
@@ -80,15 +61,13 @@ module _ (s : Shape) (w : ℕ → ℕ) where
   slab_fine (Other slab) = when_fine _ SlabLength (omega arith)
 
   causes_fine : (c : PlainCall) (b : Brought) (h : History) → AllByRecursion Fine (causes s w c b h)
-  causes_fine (At i act) b h = (slab_fine b, (when_fine _ NoSuchTrack (omega arith), act_fine i act (since w i h)))
-  causes_fine (Total a W) b h =
-      (slab_fine b, (when_fine _ LateTick (omega arith), (when_fine _ NoWindow (omega arith), over_fine a W 0 s.tracks h)))
+  causes_fine (At i act) b h = search (rules, slab_fine, when_fine, act_fine)
+  causes_fine (Total a W) b h = search (rules, slab_fine, when_fine, over_fine)
   causes_fine Ending b h = tt
 
   not_sixteen : (outcome : Outcome) → Fine (refusal_of outcome) → NotSixteen outcome
-  not_sixteen Done h = tt
-  not_sixteen (Answered x) h = tt
-  not_sixteen (Refused fault) h = h
+  not_sixteen (Ok answer) h = tt
+  not_sixteen (Err fault) h = h
 
   -- an outcome that has its cause is not that refusal
   pub caused_sound : (c : PlainCall) (b : Brought) (h : History) (outcome : Outcome) → refusal_of outcome ≡ verdict (causes s w c b h) → NotSixteen outcome

@@ -1,5 +1,5 @@
 -- The worked examples.
-use Rattle.std.proofs.Common.{◌≡◌, ℕ, ◌*◌, ◌/◌, ◌≤◌, [], ◌∷◌, Ok, codes, sym, refl, ap, ◌∙◌, inl, arith}
+use Rattle.std.proofs.Common.{◌≡◌, ℕ, ◌*◌, ◌/◌, ◌≤◌, [], ◌∷◌, Ok, codes, sym, refl, ap, ◌∙◌, arith, rules}
 use Rattle.histogram.proofs.ExponentLaws.{largest-between}
 use Rattle.histogram.specs.Settings.{room}
 use Rattle.law.proofs.LargestLaws.{largest_one}
@@ -37,7 +37,7 @@ room_is : (k N R r n : ℕ) → Largest (k / 2) (N * R) r → 1 ≤ k / 2 → ro
 room_is k N R r n h one e = ap (room (k / 2)) (sym (largest_one (k / 2) (N * R) r one h)) ∙ e
 
 spelled : Spells (97 ∷ 32 ∷ 98 ∷ 99 ∷ []) (codes "a bc")
-spelled = (((omega arith, inl (omega arith)), ((omega arith, inl (omega arith)), ((omega arith, inl (omega arith)), ((omega arith, inl (omega arith)), tt)))), refl)
+spelled = search rules
 
 a_bc : Shown (Weight (codes "a bc") 4 3)
 a_bc = (

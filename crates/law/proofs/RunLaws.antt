@@ -1,22 +1,20 @@
 -- Every run: what its calls get and what it leaves is right.
-use Rattle.std.proofs.Common.{◌≡◌, ℕ, ◌+◌, ◌*◌, ◌<◌, ◌≤◌, not, eqb, ltb, ◌⊎◌, List, [], ◌∷◌, length, get_or, set, Some, None, Option, sym, refl, ap, ◌∙◌, subst, inl, inr, arith}
+use Rattle.std.proofs.Common.{◌≡◌, ℕ, ◌+◌, ◌*◌, ◌<◌, ◌≤◌, not, eqb, ltb, ◌⊎◌, List, [], ◌∷◌, length, get_or, set, Some, None, Ok, Err, Option, sym, refl, ap, ◌∙◌, inl, inr, arith}
 use Rattle.law.proofs.CauseLaws.{caused_sound}
-use Rattle.law.proofs.LocalLaws.{Holds, LocalAnswer, LocalGood, local_good, settled}
+use Rattle.law.proofs.LocalLaws.{Holds, LocalAnswer, LocalGood, local_good, refused_local, refused_weighs, settled}
 use Rattle.law.proofs.SlabLaws.{part_length, part_other, part_put}
 use Rattle.law.proofs.SwapLaws.{Sized, acts-length, commutes, fresh_sized, lifted_far, lifted_near, lifted_strange, placed_sized, track_fits}
-use Rattle.law.proofs.TestLaws.{or_else_same, when_false, when_true}
-use Rattle.law.proofs.TotalLaws.{Tracks, at_open, open_not, total_asks, total_right, total_tests_lem, tracks_from}
+use Rattle.law.proofs.TestLaws.{or_else_same, passed, verdict_false, verdict_true}
+use Rattle.law.proofs.TotalLaws.{Tracks, total_asks, total_right, total_tests_lem, tracks_from}
 use Rattle.law.proofs.TrackLaws.{held_from, kept_as}
-use Rattle.law.specs.Calls.{Got, Local, State, acts, called, last_tick, placed, put_stretch, refusing, slab_test, stretch_at, total_answer, total_tests, totalled, tracks_of}
-use Rattle.law.specs.Law.{AnswerRight, EventRight, EventsRight, Kept, KeptAs, LawOverRuns, LineWeighs, Right, RunRight, Truthful, act_causes, causes, causes_over, refusal_of}
-use Rattle.law.specs.Runs.{Brought, Event, History, Made, Opened, Other, Own, Ran, Shut, Standing, Strange, Strangers, changed, count_over, fresh, least_k, next, run, run_from, since, sum_over, with_slab}
+use Rattle.law.specs.Calls.{Outcome, Got, Local, State, acts, called, last_tick, placed, put_stretch, refusing, slab_test, stretch_at, total_answer, total_tests, totalled, tracks_of}
+use Rattle.law.specs.Law.{AnswerRight, EventRight, EventsRight, Kept, LawOverRuns, LineWeighs, RunRight, Truthful, act_causes, causes, causes_over, refusal_of}
+use Rattle.law.specs.Runs.{Brought, Event, History, Made, Opened, Other, Own, Ran, Shut, Standing, Strange, Strangers, changed, fresh, next, run, run_from, since, with_slab}
 use Rattle.law.specs.Shapes.{entries}
 use Rattle.law.specs.Tests.{between, judged, or_else, verdict, when}
 use Rattle.law.specs.Tracks.{Act, At, Ending, Line, Open, Opening, PlainCall, Question, Retiring, Total, Track, Unopened}
 use Rattle.law.specs.declared.faults.CallFault.TheVariants.{LateTick, NoSuchTrack, NoWindow, SlabLength}
 use Rattle.law.specs.declared.faults.CallFault.{CallFault}
-use Rattle.law.specs.declared.kinds.Outcome.TheVariants.{Answered, Done, Refused}
-use Rattle.law.specs.declared.kinds.Outcome.{Outcome}
 use Rattle.law.specs.declared.shapes.Shape.{Shape}
 use Rattle.std.proofs.lemmas.List.{get_or-replicate, get_or-set_other, get_or-set_same, get_or-take, length-take-le}
 use Rattle.std.proofs.lemmas.Bool.{cases_eq, cases_lt, cond-false, cond-true, eq-eqb, le-ltb, lt-ltb, ne_eqb, not_from_false, not_from_true}
@@ -25,38 +23,27 @@ use Rattle.theory.specs.declared.entries.Entry.{Entry}
 module _ (s : Shape) (w : ℕ → ℕ) where
   -- what a call makes of the track that it names, and of another
   changed_same : (i : ℕ) (act : Act) (outcome : Outcome) (y : Standing) → changed w i (At i act) outcome y ≡ settled w act outcome y
-  changed_same i act Done y = cond-true (eqb i i) _ y (eq-eqb i i refl)
-  changed_same i act (Answered x) y = refl
-  changed_same i act (Refused fault) y = refl
+  changed_same i act (Ok None) y = cond-true (eqb i i) _ y (eq-eqb i i refl)
+  changed_same i act (Ok (Some x)) y = refl
+  changed_same i act (Err fault) y = refl
 
   changed_other : (i j : ℕ) (act : Act) (outcome : Outcome) (y : Standing) → (i ≡ j → ⊥) → changed w i (At j act) outcome y ≡ y
-  changed_other i j act Done y ne = cond-false (eqb i j) _ y (ne_eqb i j ne)
-  changed_other i j act (Answered x) y ne = refl
-  changed_other i j act (Refused fault) y ne = refl
-
-  refused_answer : (c : PlainCall) (fault : CallFault) (h : History) → AnswerRight s w c (Refused fault) h
-  refused_answer (At i (Opening t k N R)) fault h = tt
-  refused_answer (At i (Line t text)) fault h = tt
-  refused_answer (At i (Question a W)) fault h = tt
-  refused_answer (At i Retiring) fault h = tt
-  refused_answer (Total a W) fault h = tt
-  refused_answer Ending fault h = tt
-
-  refused_weighs : (c : PlainCall) (fault : CallFault) → LineWeighs w c (Refused fault)
-  refused_weighs (At i (Opening t k N R)) fault = tt
-  refused_weighs (At i (Line t text)) fault = tt
-  refused_weighs (At i (Question a W)) fault = tt
-  refused_weighs (At i Retiring) fault = tt
-  refused_weighs (Total a W) fault = tt
-  refused_weighs Ending fault = tt
+  changed_other i j act (Ok None) y ne = cond-false (eqb i j) _ y (ne_eqb i j ne)
+  changed_other i j act (Ok (Some x)) y ne = refl
+  changed_other i j act (Err fault) y ne = refl
 
   local_answer : (i : ℕ) (act : Act) (outcome : Outcome) (h : History) → LocalAnswer act outcome (since w i h) → AnswerRight s w (At i act) outcome h
   local_answer i (Opening t k N R) outcome h q = tt
   local_answer i (Line t text) outcome h q = tt
-  local_answer i (Question a W) Done h q = q
-  local_answer i (Question a W) (Answered x) h q = q
-  local_answer i (Question a W) (Refused fault) h q = tt
+  local_answer i (Question a W) (Ok None) h q = q
+  local_answer i (Question a W) (Ok (Some x)) h q = q
+  local_answer i (Question a W) (Err fault) h q = tt
   local_answer i Retiring outcome h q = tt
+
+  refused_answer : (c : PlainCall) (fault : CallFault) (h : History) → AnswerRight s w c (Err fault) h
+  refused_answer (At i act) fault h = local_answer i act (Err fault) h (refused_local act fault (since w i h))
+  refused_answer (Total a W) fault h = tt
+  refused_answer Ending fault h = tt
 
   -- the invariant of a run
   pub record Good (g : Ran) : Type 0 where
@@ -77,8 +64,8 @@ module _ (s : Shape) (w : ℕ → ℕ) where
   event_right c b h outcome a v e = record { answer = a; weighs = v; caused = e; sound = caused_sound s w c b h outcome e }
 
   refused_event : (c : PlainCall) (b : Brought) (h : History) (fault : CallFault) → Some fault ≡ verdict (causes s w c b h)
-      → EventRight s w (event c b (Refused fault)) h
-  refused_event c b h fault e = event_right c b h (Refused fault) (refused_answer c fault h) (refused_weighs c fault) e
+      → EventRight s w (event c b (Err fault)) h
+  refused_event c b h fault e = event_right c b h (Err fault) (refused_answer c fault h) (refused_weighs w c fault) e
 
   refused_at : (g : Ran) (i : ℕ) (act : Act) (b : Brought) (fault : CallFault) → Some fault ≡ verdict (causes s w (At i act) b g.history) → Good g
       → Good (landed g (At i act) b (refusing g.state fault))
@@ -121,69 +108,50 @@ module _ (s : Shape) (w : ℕ → ℕ) where
           (v.tracks i lt)
 
       cause_is : verdict (causes s w (At i act) Own g.history) ≡ verdict (act_causes s w i act (since w i g.history))
-      cause_is = ap (λ (o : Option CallFault). or_else o (verdict (act_causes s w i act (since w i g.history))))
-          (when_false (not (ltb i s.tracks)) NoSuchTrack (not_from_true _ (lt-ltb i s.tracks lt)))
-
-      at_same : Holds s.stretch (changed w i (At i act) d.outcome (since w i g.history))
-          (get_or (set g.state.table i d.track) i Unopened) (stretch_at s.stretch i (put_stretch s.stretch i d.stretch g.state.slab))
-      at_same =
-          subst (λ (y : Standing). Holds s.stretch y (get_or (set g.state.table i d.track) i Unopened)
-          (stretch_at s.stretch i (put_stretch s.stretch i d.stretch g.state.slab)))
-          (sym (changed_same i act d.outcome (since w i g.history)))
-          (subst (λ (k : Track). Holds s.stretch (settled w act d.outcome (since w i g.history)) k
-          (stretch_at s.stretch i (put_stretch s.stretch i d.stretch g.state.slab)))
-          (sym (get_or-set_same g.state.table i d.track Unopened (omega (arith, v.sized.table))))
-          (subst (λ (es : List Entry). Holds s.stretch (settled w act d.outcome (since w i g.history)) d.track es)
-          (sym (part_put s.stretch i d.stretch g.state.slab (fit i lt) len)) good.keeps))
+      cause_is = verdict_false (not (ltb i s.tracks)) NoSuchTrack (verdict (act_causes s w i act (since w i g.history))) (not_from_true _ (lt-ltb i s.tracks lt))
 
       at_track : (j : ℕ) → j < s.tracks → (j ≡ i) ⊎ (j ≡ i → ⊥)
           → Holds s.stretch (changed w j (At i act) d.outcome (since w j g.history))
           (get_or (set g.state.table i d.track) j Unopened) (stretch_at s.stretch j (put_stretch s.stretch i d.stretch g.state.slab))
       at_track j lj (inl e) =
-          subst (λ (q : ℕ). Holds s.stretch (changed w q (At i act) d.outcome (since w q g.history))
-          (get_or (set g.state.table i d.track) q Unopened) (stretch_at s.stretch q (put_stretch s.stretch i d.stretch g.state.slab)))
-          (sym e) at_same
+          rw (
+            e,
+            changed_same i act d.outcome (since w i g.history),
+            get_or-set_same g.state.table i d.track Unopened (omega (arith, v.sized.table)),
+            part_put s.stretch i d.stretch g.state.slab (fit i lt) len,
+          ) good.keeps
       at_track j lj (inr ne) =
-          subst (λ (y : Standing). Holds s.stretch y (get_or (set g.state.table i d.track) j Unopened)
-          (stretch_at s.stretch j (put_stretch s.stretch i d.stretch g.state.slab)))
-          (sym (changed_other j i act d.outcome (since w j g.history) ne))
-          (subst (λ (k : Track). Holds s.stretch (since w j g.history) k
-          (stretch_at s.stretch j (put_stretch s.stretch i d.stretch g.state.slab)))
-          (sym (get_or-set_other g.state.table i j d.track Unopened ne))
-          (subst (λ (es : List Entry). Holds s.stretch (since w j g.history) (get_or g.state.table j Unopened) es)
-          (sym (part_other s.stretch i j d.stretch g.state.slab (fit i lt) (fit j lj) len (λ q. ne (sym q)))) (v.tracks j lj)))
+          rw (
+            changed_other j i act d.outcome (since w j g.history) ne,
+            get_or-set_other g.state.table i j d.track Unopened ne,
+            part_other s.stretch i j d.stretch g.state.slab (fit i lt) (fit j lj) len (λ q. ne (sym q)),
+          ) (v.tracks j lj)
 
   own_at : (g : Ran) (i : ℕ) (act : Act) → Good g → (i < s.tracks) ⊎ (s.tracks ≤ i) → Good (landed g (At i act) Own (called s w g.state (At i act)))
-  own_at g i act v (inl lt) =
-      subst (λ (d : Got). Good (landed g (At i act) Own d)) (sym (lifted_near s i (acts s w i act) g.state v.sized.slab lt)) (placed_good g i act lt v)
+  own_at g i act v (inl lt) = rw (lifted_near s i (acts s w i act) g.state v.sized.slab lt) (placed_good g i act lt v)
   own_at g i act v (inr le) =
-      subst (λ (d : Got). Good (landed g (At i act) Own d)) (sym (lifted_far s i (acts s w i act) g.state v.sized.slab le))
+      rw (lifted_far s i (acts s w i act) g.state v.sized.slab le)
       (refused_at g i act Own NoSuchTrack
-      (sym (ap (λ (o : Option CallFault). or_else o (verdict (act_causes s w i act (since w i g.history))))
-      (when_true (not (ltb i s.tracks)) NoSuchTrack (not_from_false _ (le-ltb i s.tracks le))))) v)
+      (sym (verdict_true (not (ltb i s.tracks)) NoSuchTrack _ (not_from_false _ (le-ltb i s.tracks le)))) v)
 
   -- another slab is refused by its length
-  strange_cause : (slab : List Entry) → (length slab ≡ entries s → ⊥) → when (not (eqb (length slab) (entries s))) SlabLength ≡ Some SlabLength
-  strange_cause slab h = when_true _ SlabLength (not_from_false _ (ne_eqb (length slab) (entries s) h))
+  strange_cause : (slab : List Entry) (rest : Option CallFault) → (length slab ≡ entries s → ⊥)
+      → or_else (slab_test s slab) rest ≡ Some SlabLength
+  strange_cause slab rest h = verdict_true _ SlabLength rest (not_from_false _ (ne_eqb (length slab) (entries s) h))
 
   strange_at : (g : Ran) (i : ℕ) (act : Act) (slab : List Entry) → (length slab ≡ entries s → ⊥) → Good g
       → Good (landed g (At i act) (Other slab) (with_slab s w g.state (At i act) (Other slab)))
   strange_at g i act slab h v =
-      subst (λ (d : Got). Good (landed g (At i act) (Other slab) (record { outcome = d.outcome; state = record { table = d.state.table; slab = g.state.slab } })))
-      (sym (lifted_strange s i (acts s w i act) (record { table = g.state.table; slab = slab }) h))
-      (refused_at g i act (Other slab) SlabLength
-      (sym (ap (λ (o : Option CallFault). or_else o (verdict (when (not (ltb i s.tracks)) NoSuchTrack ∷ act_causes s w i act (since w i g.history))))
-      (strange_cause slab h))) v)
+      rw (lifted_strange s i (acts s w i act) (record { table = g.state.table; slab = slab }) h)
+      (refused_at g i act (Other slab) SlabLength (sym (strange_cause slab _ h)) v)
 
   -- totals
   module _ (g : Ran) (a W : ℕ) (v : Good g) where
     all_hold : Tracks s w a W g.history g.state.slab 0 (tracks_of s g.state)
     all_hold = tracks_from s w a W g.history g.state.slab 0 (tracks_of s g.state) (λ q lt.
-        let e : q ≡ 0 + q = omega arith in
         let near : q < s.tracks = omega (arith, length-take-le s.tracks g.state.table v.sized.table) in
-        subst (λ (n : ℕ). Holds s.stretch (since w n g.history) (get_or (tracks_of s g.state) q Unopened) (stretch_at s.stretch n g.state.slab)) e
-        (subst (λ (k : Track). Holds s.stretch (since w q g.history) k (stretch_at s.stretch q g.state.slab))
-        (sym (get_or-take s.tracks g.state.table q Unopened near)) (v.tracks q near)))
+        let e : 0 + q ≡ q = omega arith in
+        rw (e, get_or-take s.tracks g.state.table q Unopened near) (v.tracks q near))
 
     count_is : length (tracks_of s g.state) ≡ s.tracks
     count_is = length-take-le s.tracks g.state.table v.sized.table
@@ -197,29 +165,17 @@ module _ (s : Shape) (w : ℕ → ℕ) where
 
     tests_are : verdict tests ≡ verdict (causes s w (Total a W) Own g.history)
     tests_are =
-        ap (λ (o : Option CallFault). or_else o (or_else (when (ltb last_tick a) LateTick) (or_else (when (not (between 1 1048576 W)) NoWindow)
-        (verdict (total_tests s.stretch a W 0 g.state.slab (tracks_of s g.state))))))
-        (when_false _ SlabLength (not_from_true _ (eq-eqb (length g.state.slab) (entries s) v.sized.slab)))
+        verdict_false _ SlabLength _ (not_from_true _ (eq-eqb (length g.state.slab) (entries s) v.sized.slab))
         ∙ or_else_same (when (ltb last_tick a) LateTick) _ _ (λ _.
         or_else_same (when (not (between 1 1048576 W)) NoWindow) _ _ (λ _.
         total_tests_lem s w a W g.history g.state.slab 0 (tracks_of s g.state) all_hold
         ∙ ap (λ (m : ℕ). verdict (causes_over w a W 0 m g.history)) count_is))
 
-    last_passes : (first second third rest : Option CallFault) → or_else first (or_else second (or_else third rest)) ≡ None → rest ≡ None
-    last_passes None None None rest e = e
-    last_passes None None (Some f) rest e = absurd (let z : ◌≡◌ {A = ℕ} 0 1 = cc in omega arith)
-    last_passes None (Some f) third rest e = absurd (let z : ◌≡◌ {A = ℕ} 0 1 = cc in omega arith)
-    last_passes (Some f) second third rest e = absurd (let z : ◌≡◌ {A = ℕ} 0 1 = cc in omega arith)
-
     total_good : Good (landed g (Total a W) Own (totalled s a W g.state))
     total_good = go (verdict tests) refl
       where
         done : Got
-        done = record { outcome = Answered (total_answer s.stretch a W 0 g.state.slab (tracks_of s g.state)); state = g.state }
-
-        asked : verdict tests ≡ None → verdict (total_tests s.stretch a W 0 g.state.slab (tracks_of s g.state)) ≡ None
-        asked = last_passes (slab_test s g.state.slab) (when (ltb last_tick a) LateTick) (when (not (between 1 1048576 W)) NoWindow)
-            (verdict (total_tests s.stretch a W 0 g.state.slab (tracks_of s g.state)))
+        done = record { outcome = Ok (Some (total_answer s.stretch a W 0 g.state.slab (tracks_of s g.state))); state = g.state }
 
         go : (o : Option CallFault) → verdict tests ≡ o → Good (landed g (Total a W) Own (judged o done (refusing g.state)))
         go (Some fault) e = refused_total g a W Own fault (sym e ∙ tests_are) v
@@ -229,10 +185,8 @@ module _ (s : Shape) (w : ℕ → ℕ) where
               tracks = v.tracks;
               events = (
                 event_right (Total a W) Own g.history done.outcome
-                    (subst (λ (m : ℕ). Right (sum_over w W a 0 m g.history) (least_k w 0 m g.history) (count_over w 0 m g.history)
-                    (total_answer s.stretch a W 0 g.state.slab (tracks_of s g.state))) count_is
-                    (total_right s w a W g.history g.state.slab 0 (tracks_of s g.state) all_hold
-                    (total_asks s.stretch a W 0 g.state.slab (tracks_of s g.state) (asked e))).right)
+                    (rw count_is at ((total_right s w a W g.history g.state.slab 0 (tracks_of s g.state) all_hold
+                    (total_asks s.stretch a W 0 g.state.slab (tracks_of s g.state) (passed tests e).1.1.1)).right))
                     tt (sym e ∙ tests_are),
                 v.events,
               );
@@ -241,21 +195,14 @@ module _ (s : Shape) (w : ℕ → ℕ) where
   strange_total : (g : Ran) (a W : ℕ) (slab : List Entry) → (length slab ≡ entries s → ⊥) → Good g
       → Good (landed g (Total a W) (Other slab) (with_slab s w g.state (Total a W) (Other slab)))
   strange_total g a W slab h v =
-      let st : State = record { table = g.state.table; slab = slab } in
       let rest : List (Option CallFault) =
-      when (ltb last_tick a) LateTick ∷ when (not (between 1 1048576 W)) NoWindow ∷ total_tests s.stretch a W 0 slab (tracks_of s st) in
-      let done : Got = record { outcome = Answered (total_answer s.stretch a W 0 slab (tracks_of s st)); state = st } in
-      subst (λ (o : Option CallFault). Good (landed g (Total a W) (Other slab) (record {
-        outcome = (judged (or_else o (verdict rest)) done (refusing st)).outcome;
-        state = record { table = (judged (or_else o (verdict rest)) done (refusing st)).state.table; slab = g.state.slab };
-      }))) (sym (strange_cause slab h))
-      (refused_total g a W (Other slab) SlabLength
-      (sym (ap (λ (o : Option CallFault). or_else o (or_else (when (ltb last_tick a) LateTick) (or_else (when (not (between 1 1048576 W)) NoWindow)
-      (verdict (causes_over w a W 0 s.tracks g.history))))) (strange_cause slab h))) v)
+      when (ltb last_tick a) LateTick ∷ when (not (between 1 1048576 W)) NoWindow
+      ∷ total_tests s.stretch a W 0 slab (tracks_of s (record { table = g.state.table; slab = slab })) in
+      rw (strange_cause slab (verdict rest) h) (refused_total g a W (Other slab) SlabLength (sym (strange_cause slab _ h)) v)
 
-  ending_good : (g : Ran) (b : Brought) → Good g → Good (landed g Ending b (record { outcome = Done; state = g.state }))
+  ending_good : (g : Ran) (b : Brought) → Good g → Good (landed g Ending b (record { outcome = Ok None; state = g.state }))
   ending_good g b v =
-      record { sized = v.sized; tracks = v.tracks; events = (event_right Ending b g.history Done tt tt refl, v.events) }
+      record { sized = v.sized; tracks = v.tracks; events = (event_right Ending b g.history (Ok None) tt tt refl, v.events) }
 
   -- one call more
   pub step_good : (g : Ran) (c : PlainCall) (b : Brought) → Strange s b → Good g → Good (landed g c b (with_slab s w g.state c b))
@@ -275,9 +222,9 @@ module _ (s : Shape) (w : ℕ → ℕ) where
       record { sized = fresh_sized s slab e; tracks = λ i lt. get_or-replicate 16 i Unopened Unopened (omega (arith, s.few)); events = tt }
 
   kept_from : (y : Standing) (k : Track) (es : List Entry) → Holds s.stretch y k es → Kept y k es
-  kept_from Shut k es h = subst (λ (q : Track). Kept Shut q es) (sym h) tt
-  kept_from (Opened x) Unopened es h = open_not (held_from x) (sym h.1)
-  kept_from (Opened x) (Open held) es h = at_open s.stretch x held es (λ u r. KeptAs x u r) h (kept_as s.stretch x h.0)
+  kept_from Shut k es h = rw h tt
+  kept_from (Opened x) Unopened es h = absurd (cc)
+  kept_from (Opened x) (Open held) es h = let e : held ≡ held_from x = cc in rw (e, h.2) (kept_as s.stretch x h.0)
 
   pub run_right : (slab : List Entry) → length slab ≡ entries s → (ms : List Made) → Strangers s ms → RunRight s w slab ms
   run_right slab e ms h =
@@ -296,5 +243,4 @@ pub truthful : (s : Shape) (w : ℕ → ℕ) (st : State) (c : PlainCall) (got :
 truthful s w st c got e first n ms str is =
     let g : Ran = run s w first ms in
     let v = step_good s w g c Own tt (run_good s w (fresh first) ms str (fresh_good s w first n)) in
-    let same : (called s w g.state c).outcome ≡ got = ap (λ (x : State). (called s w x c).outcome) is ∙ sym e in
-    subst (λ (o : Outcome). EventRight s w (event s w c Own o) g.history) same v.events.0
+    rw (e, ← is) v.events.0

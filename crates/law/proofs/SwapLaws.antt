@@ -1,5 +1,5 @@
 -- Calls keep the sizes of table and slab, and calls on different tracks change places.
-use Rattle.std.proofs.Common.{◌≡◌, ℕ, ◌+◌, ◌*◌, ◌<◌, ◌≤◌, ◌⊎◌, List, [], ◌∷◌, ◌++◌, length, get_or, sym, refl, ap, ◌∙◌, subst, ap₂, inl, inr, mul-le-mul_right, arith}
+use Rattle.std.proofs.Common.{◌≡◌, ℕ, ◌+◌, ◌*◌, ◌<◌, ◌≤◌, ◌⊎◌, List, [], ◌∷◌, ◌++◌, length, get_or, sym, refl, ap, ◌∙◌, ap₂, inl, inr, mul-le-mul_right, arith}
 use Rattle.law.proofs.SlabLaws.{padded-length, part_length, part_other, put_comm, put_length}
 use Rattle.law.proofs.TestLaws.{judged_all}
 use Rattle.law.specs.Calls.{Got, Local, State, acts, lifted, placed, refusing, stretch_at}
@@ -9,7 +9,6 @@ use Rattle.law.specs.Shapes.{entries}
 use Rattle.law.specs.Tracks.{Act, At, Ending, Line, Open, Opening, PlainCall, Question, Retiring, Total, Track, Unopened}
 use Rattle.law.specs.declared.faults.CallFault.TheVariants.{NoSuchTrack, SlabLength}
 use Rattle.law.specs.declared.faults.CallFault.{CallFault}
-use Rattle.law.specs.declared.kinds.Outcome.{Outcome}
 use Rattle.law.specs.declared.shapes.Shape.{Shape}
 use Rattle.std.proofs.lemmas.List.{get_or-set_other, length-replicate, length-set, set_comm}
 use Rattle.std.proofs.lemmas.Bool.{cases_lt, eq-eqb, le-ltb, lt-ltb, ne_eqb}
@@ -94,7 +93,7 @@ module _ (s : Shape) (w : ℕ → ℕ) where
   own_way i act (inr le) = refuses NoSuchTrack (λ st z. lifted_far s i (acts s w i act) st z.slab le)
 
   way : (c : PlainCall) (b : Brought) (i : ℕ) → Names c i → Strange s b → Way (record { call = c; slab = b }) i
-  way (At j act) Own i e h = subst (Way (record { call = At j act; slab = Own })) e (own_way j act (cases_lt j s.tracks))
+  way (At j act) Own i e h = rw (← e) (own_way j act (cases_lt j s.tracks))
   way (At j act) (Other slab) i e h =
       refuses SlabLength (λ st z.
       ap (λ (g : Got). record { outcome = g.outcome; state = record { table = g.state.table; slab = st.slab } })
@@ -111,10 +110,9 @@ module _ (s : Shape) (w : ℕ → ℕ) where
   -- SIZES STAY
 
   way_sized : (m : Made) (i : ℕ) → Way m i → (st : State) → Sized s st → Sized s (got st m).state
-  way_sized m i (refuses fault h) st z = subst (λ (g : Got). Sized s g.state) (sym (h st z)) z
+  way_sized m i (refuses fault h) st z = rw (h st z) z
   way_sized m i (places f p) st z =
-      subst (λ (g : Got). Sized s g.state) (sym (p.does st z))
-      (placed_sized s i (local_at s i f st) st z p.near (places_length m i f p st z))
+      rw (p.does st z) (placed_sized s i (local_at s i f st) st z p.near (places_length m i f p st z))
 
   call_sized : (c : PlainCall) (b : Brought) → Strange s b → (st : State) → Sized s st → Sized s (with_slab s w st c b).state
   call_sized (At i act) b h st z = way_sized (record { call = At i act; slab = b }) i (way (At i act) b i refl h) st z
@@ -142,12 +140,10 @@ module _ (s : Shape) (w : ℕ → ℕ) where
   trade_refused : (a b : Made) (fault : CallFault) → Refuses a fault
       → (st : State) → Sized s st → Sized s (got st b).state → Trade st a b
   trade_refused a b fault h st z later =
-      let same : (got st a).state ≡ st = ap (λ (g : Got). g.state) (h st z) in
-      let same-later : (got (got st b).state a).state ≡ (got st b).state = ap (λ (g : Got). g.state) (h (got st b).state later) in
       record {
-        first = ap (λ (g : Got). g.outcome) (h (got st b).state later) ∙ sym (ap (λ (g : Got). g.outcome) (h st z));
-        second = ap (λ (x : State). (got x b).outcome) same;
-        state = ap (λ (x : State). (got x b).state) same ∙ sym same-later;
+        first = rw (h (got st b).state later, h st z) refl;
+        second = rw (h st z) refl;
+        state = rw (h st z, h (got st b).state later) refl;
       }
 
   -- after something was placed at another track, a call sees what it saw before
@@ -169,18 +165,19 @@ module _ (s : Shape) (w : ℕ → ℕ) where
       let lx : length x.stretch ≡ s.stretch = places_length a i f p st z in
       let ly : length y.stretch ≡ s.stretch = places_length b j g q st z in
       let one : got (got st a).state b ≡ placed s j y (placed s i x st).state =
-      ap (λ (d : Got). got d.state b) (p.does st z) ∙ after_placed b i j x g q p.near ne st z lx in
+      rw (p.does st z) (after_placed b i j x g q p.near ne st z lx) in
       let two : got (got st b).state a ≡ placed s i x (placed s j y st).state =
-      ap (λ (d : Got). got d.state a) (q.does st z) ∙ after_placed a j i y f p q.near (λ e. ne (sym e)) st z ly in
+      rw (q.does st z) (after_placed a j i y f p q.near (λ e. ne (sym e)) st z ly) in
       record {
-        first = ap (λ (d : Got). d.outcome) two ∙ sym (ap (λ (d : Got). d.outcome) (p.does st z));
-        second = ap (λ (d : Got). d.outcome) one ∙ sym (ap (λ (d : Got). d.outcome) (q.does st z));
-        state = ap (λ (d : Got). d.state) one
-            ∙ ap₂ (λ (table : List Track) (slab : List Entry). record { table = table; slab = slab })
-            (set_comm st.table i j x.track y.track ne)
-            (put_comm s.stretch i j x.stretch y.stretch st.slab
-            (track_fits s i st.slab p.near z.slab) (track_fits s j st.slab q.near z.slab) lx ly ne)
-            ∙ sym (ap (λ (d : Got). d.state) two);
+        first = rw (two, p.does st z) refl;
+        second = rw (one, q.does st z) refl;
+        state = rw (
+          one,
+          two,
+          set_comm st.table i j x.track y.track ne,
+          put_comm s.stretch i j x.stretch y.stretch st.slab (track_fits s i st.slab p.near z.slab)
+              (track_fits s j st.slab q.near z.slab) lx ly ne,
+        ) refl;
       }
 
   trade_ways : (a b : Made) (i j : ℕ) → (i ≡ j → ⊥) → Way a i → Way b j → (st : State) → Sized s st → Trade st a b
@@ -218,13 +215,9 @@ module _ (s : Shape) (w : ℕ → ℕ) where
   history-length g [] = omega arith
   history-length g (m ∷ ms) = omega (arith, history-length (next s w g m) ms)
 
-strangers_left : (s : Shape) (xs ys : List Made) → Strangers s (xs ++ ys) → Strangers s xs
-strangers_left s [] ys h = tt
-strangers_left s (x ∷ xs) ys h = (h.0, strangers_left s xs ys h.1)
-
-strangers_right : (s : Shape) (xs ys : List Made) → Strangers s (xs ++ ys) → Strangers s ys
-strangers_right s [] ys h = h
-strangers_right s (x ∷ xs) ys h = strangers_right s xs ys h.1
+strangers_parts : (s : Shape) (xs ys : List Made) → Strangers s (xs ++ ys) → Strangers s xs × Strangers s ys
+strangers_parts s [] ys h = (tt, h)
+strangers_parts s (x ∷ xs) ys h = let p = strangers_parts s xs ys h.1 in ((h.0, p.0), p.1)
 
 pub fresh_sized : (s : Shape) (slab : List Entry) → length slab ≡ entries s → Sized s (fresh slab).state
 fresh_sized s slab e = record { table = omega (arith, length-replicate 16 Unopened, s.few); slab = e }
@@ -232,22 +225,17 @@ fresh_sized s slab e = record { table = omega (arith, length-replicate 16 Unopen
 pub commutes : (s : Shape) (w : ℕ → ℕ) (slab : List Entry) → length slab ≡ entries s → Commutes s w slab
 commutes s w slab size before a b after i j na nb ne str =
     let g : Ran = run s w slab before in
-    let tail = strangers_right s before (a ∷ b ∷ after) str in
+    let parts = strangers_parts s before (a ∷ b ∷ after) str in
     let z : Sized s g.state =
-    run_sized s w (fresh slab) before (strangers_left s before (a ∷ b ∷ after) str) (fresh_sized s slab size) in
-    let t = trade s w a b i j na nb ne tail.0 tail.1.0 g.state z in
+    run_sized s w (fresh slab) before parts.0 (fresh_sized s slab size) in
+    let t = trade s w a b i j na nb ne parts.1.0 parts.1.1.0 g.state z in
     let end : State = (got s w (got s w g.state a).state b).state in
     let first : Event = record { made = a; outcome = (got s w g.state a).outcome } in
     let second : Event = record { made = b; outcome = (got s w g.state b).outcome } in
     let one : run s w slab (before ++ (a ∷ b ∷ after)) ≡ run_from s w (record { history = second ∷ first ∷ g.history; state = end }) after =
-    run-append s w (fresh slab) before (a ∷ b ∷ after)
-    ∙ ap (λ (o : Outcome). run_from s w (record { history = record { made = b; outcome = o } ∷ first ∷ g.history; state = end }) after)
-    t.second in
+    rw (run-append s w (fresh slab) before (a ∷ b ∷ after), t.second) refl in
     let two : run s w slab (before ++ (b ∷ a ∷ after)) ≡ run_from s w (record { history = first ∷ second ∷ g.history; state = end }) after =
-    run-append s w (fresh slab) before (b ∷ a ∷ after)
-    ∙ ap₂ (λ (o : Outcome) (st : State).
-    run_from s w (record { history = record { made = a; outcome = o } ∷ second ∷ g.history; state = st }) after)
-    t.first (sym t.state) in
+    rw (run-append s w (fresh slab) before (b ∷ a ∷ after), t.first, ← t.state) refl in
     record {
       past = g.history;
       later = (run_from s w (record { history = []; state = end }) after).history;
@@ -256,9 +244,7 @@ commutes s w slab size before a b after i j na nb ne str =
       place = omega (arith, history-length s w (fresh slab) before);
       first_is = refl;
       second_is = refl;
-      one_way = ap (λ (r : Ran). r.history) one ∙ history_apart s w [] (second ∷ first ∷ g.history) end after;
-      other_way = ap (λ (r : Ran). r.history) two ∙ history_apart s w [] (first ∷ second ∷ g.history) end after;
-      same = ap (λ (r : Ran). r.state) one
-          ∙ state_apart s w (second ∷ first ∷ g.history) (first ∷ second ∷ g.history) end after
-          ∙ sym (ap (λ (r : Ran). r.state) two);
+      one_way = rw one (history_apart s w [] (second ∷ first ∷ g.history) end after);
+      other_way = rw two (history_apart s w [] (first ∷ second ∷ g.history) end after);
+      same = rw (one, two) (state_apart s w (second ∷ first ∷ g.history) (first ∷ second ∷ g.history) end after);
     }

@@ -1,8 +1,10 @@
 -- Tests and their verdict: which cause decides, and what holds of a call whatever the verdict is.
-use Rattle.std.proofs.Common.{◌≡◌, ℕ, Bool, true, false, List, [], ◌∷◌, Some, None, Option, refl, ap, subst, arith}
-use Rattle.law.specs.Tests.{judged, or_else, verdict, when}
+use Rattle.std.proofs.Common.{◌≡◌, ℕ, ◌≤◌, not, Bool, true, false, ltb, List, [], ◌∷◌, Some, None, Option, refl, ap, arith}
+use Rattle.law.specs.Tests.{between, judged, or_else, verdict, when}
 use Rattle.law.specs.declared.faults.CallFault.{CallFault}
-use Rattle.std.proofs.lemmas.Bool.{cond_both, cond-false, cond-true}
+use Rattle.std.proofs.lemmas.Bool.{cond-false, cond-true}
+use Rattle.std.proofs.lemmas.Bool.Decides.{nat_tests}
+use Rattle.std.specs.List.{AllByRecursion}
 
 -- what holds of the accepted call and of every refusal holds of what becomes of the call
 pub judged_all : {A : Type 0} (v : Option CallFault) (done : A) (refuse : CallFault → A) (P : A → Type 0)
@@ -18,36 +20,31 @@ module _ (b : Bool) (fault : CallFault) where
   when_false e = cond-false b (Some fault) None e
 
   -- a test that fails decides
-  pub verdict_true : (tests : List (Option CallFault)) → b ≡ true → verdict (when b fault ∷ tests) ≡ Some fault
-  verdict_true tests e = ap (λ (v : Option CallFault). or_else v (verdict tests)) (when_true e)
+  pub verdict_true : (rest : Option CallFault) → b ≡ true → or_else (when b fault) rest ≡ Some fault
+  verdict_true rest e = ap (λ (v : Option CallFault). or_else v rest) (when_true e)
 
   -- one that does not leaves it to the others
-  pub verdict_false : (tests : List (Option CallFault)) → b ≡ false → verdict (when b fault ∷ tests) ≡ verdict tests
-  verdict_false tests e = ap (λ (v : Option CallFault). or_else v (verdict tests)) (when_false e)
+  pub verdict_false : (rest : Option CallFault) → b ≡ false → or_else (when b fault) rest ≡ rest
+  verdict_false rest e = ap (λ (v : Option CallFault). or_else v rest) (when_false e)
 
-  -- what a test says by its outcome
-  pub when_passes : when b fault ≡ None → b ≡ false
-  when_passes = cond_both b (Some fault) None (λ (o : Option CallFault). o ≡ None → b ≡ false)
-      (λ _ e. absurd (let z : ◌≡◌ {A = ℕ} 0 1 = cc in omega arith)) (λ e _. e)
+-- what a test that passes says of its numbers
+pub not_below : (a b : ℕ) (fault : CallFault) → when (ltb a b) fault ≡ None → b ≤ a
+not_below a b fault e = grind (arith, nat_tests)
 
-  pub when_fails : (P : Option CallFault → Type 0) → P (Some fault) → (other : CallFault) → when b fault ≡ Some other → P (Some other)
-  when_fails P h other = cond_both b (Some fault) None (λ (o : Option CallFault). o ≡ Some other → P (Some other))
-      (λ _ e. subst P e h) (λ _ e. absurd (let z : ◌≡◌ {A = ℕ} 0 1 = cc in omega arith))
+pub is_between : (a b x : ℕ) (fault : CallFault) → when (not (between a b x)) fault ≡ None → (a ≤ x) × (x ≤ b)
+is_between a b x fault e = grind (arith, nat_tests)
 
 -- what comes after a test counts only where the test passes
 pub or_else_same : (test x y : Option CallFault) → (test ≡ None → x ≡ y) → or_else test x ≡ or_else test y
 or_else_same (Some fault) x y h = refl
 or_else_same None x y h = h refl
 
--- going through a list of tests: a later test knows that the earlier ones passed
-abbrev pub Decide : List (Option CallFault) → (Option CallFault → Type 0) → Type 0
-Decide [] P = P None
-Decide (test ∷ tests) P = ((fault : CallFault) → test ≡ Some fault → P (Some fault)) × (test ≡ None → Decide tests P)
+-- each test of a list passes
+abbrev pub Passed : List (Option CallFault) → Type 0
+Passed tests = AllByRecursion (λ test. test ≡ None) tests
 
-pub decide : (tests : List (Option CallFault)) (P : Option CallFault → Type 0) → Decide tests P → P (verdict tests)
-decide [] P d = d
-decide (test ∷ tests) P d = go test refl (λ e. decide tests P (d.1 e))
-  where
-    go : (x : Option CallFault) → test ≡ x → (test ≡ None → P (verdict tests)) → P (or_else x (verdict tests))
-    go (Some fault) e rest = d.0 fault e
-    go None e rest = rest e
+-- so it is where none decides
+pub passed : (tests : List (Option CallFault)) → verdict tests ≡ None → Passed tests
+passed [] e = tt
+passed (None ∷ tests) e = (refl, passed tests e)
+passed (Some fault ∷ tests) e = absurd (cc)

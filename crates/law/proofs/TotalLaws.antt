@@ -1,37 +1,18 @@
 -- A total over the tracks: its tests are the causes that the history tells, and its answer lies round the sum of the true sums.
-use Rattle.std.proofs.Common.{◌≡◌, ℕ, zero, suc, ◌+◌, ◌-◌, ◌*◌, ◌<◌, ◌≤◌, min, not, ltb, leb, List, [], ◌∷◌, length, get_or, Some, None, Option, sym, refl, ap, ◌∙◌, subst, mul-le-mul_right, arith}
+use Rattle.std.proofs.Common.{◌≡◌, ℕ, zero, suc, ◌+◌, ◌-◌, ◌*◌, ◌<◌, ◌≤◌, min, List, [], ◌∷◌, length, get_or, Option, refl, ap, ◌∙◌, mul-le-mul_right, arith}
 use Rattle.law.proofs.LocalLaws.{Holds, ask_tests_lem}
-use Rattle.law.proofs.TestLaws.{when_passes}
+use Rattle.law.proofs.TestLaws.{Passed, is_between, not_below}
 use Rattle.law.proofs.TrackLaws.{Fits, answer_right, held_from, right_from}
-use Rattle.law.specs.Calls.{answer, ask_tests, is_sound, joined, nothing, padded, smaller, stretch_at, total_answer, total_tests}
+use Rattle.law.specs.Calls.{answer, ask_tests, joined, nothing, padded, smaller, stretch_at, total_answer, total_tests}
 use Rattle.law.specs.Law.{Right, causes_over, join_causes}
 use Rattle.law.specs.Runs.{History, Opened, Shut, Since, Standing, buckets_of, count_of, count_over, join_k, least_k, since, sum_over, true_sum}
-use Rattle.law.specs.Tests.{between, or_else, verdict, when}
-use Rattle.law.specs.Tracks.{Held, Open, Track, Unopened, is_open}
-use Rattle.law.specs.declared.faults.CallFault.TheVariants.{BadWindow, EarlyTick, Unsound}
+use Rattle.law.specs.Tests.{verdict}
+use Rattle.law.specs.Tracks.{Held, Open, Track, Unopened}
+use Rattle.law.specs.declared.faults.CallFault.TheVariants.{BadWindow, EarlyTick}
 use Rattle.law.specs.declared.faults.CallFault.{CallFault}
 use Rattle.law.specs.declared.kinds.Answer.{Answer}
 use Rattle.law.specs.declared.shapes.Shape.{Shape}
-use Rattle.std.proofs.lemmas.Bool.{and_parts, leb-true, ltb-false, not-false, true≢false}
 use Rattle.theory.specs.declared.entries.Entry.{Entry}
-
-pub open_not : (held : Held) → Open held ≡ Unopened → ⊥
-open_not held e = true≢false (ap is_open e)
-
-abbrev held_in : Held → Track → Held
-held_in other Unopened = other
-held_in other (Open held) = held
-
--- a fact of what the history leaves is one of the track that holds
-pub at_open : (p : ℕ) (x : Since) (held : Held) (es : List Entry) (P : Held → List Entry → Type 0) → Holds p (Opened x) (Open held) es
-    → P (held_from x) (padded p (buckets_of x)) → P held es
-at_open p x held es P h q =
-    subst (λ (u : Held). P u es) (sym (ap (held_in held) h.1)) (subst (λ (r : List Entry). P (held_from x) r) (sym h.2) q)
-
--- both of two tests pass where none decides
-both_pass : (test rest : Option CallFault) → or_else test rest ≡ None → (test ≡ None) × (rest ≡ None)
-both_pass (Some fault) rest e = absurd (let z : ◌≡◌ {A = ℕ} 0 1 = cc in omega arith)
-both_pass None rest e = (refl, e)
 
 -- the gap of a sum of answers
 both_gaps : (c k m g f X Y : ℕ) → c ≤ k → c ≤ m → k * g ≤ 2 * X → m * f ≤ 2 * Y → c * (g + f) ≤ 2 * (X + Y)
@@ -56,10 +37,10 @@ module _ (p a W : ℕ) where
   answer_shut : (y : Standing) (es : List Entry) → Holds p y Unopened es → (X K B : ℕ) (x : Answer) → TotalRight X K B x
       → TotalRight (true_sum W a y + X) (join_k y K) (count_of y + B) x
   answer_shut Shut es h X K B x g =
-      let e : X ≡ 0 + X = omega arith in
-      let d : B ≡ 0 + B = omega arith in
-      subst (λ (n : ℕ). TotalRight n K (0 + B) x) e (subst (λ (n : ℕ). TotalRight X K n x) d g)
-  answer_shut (Opened y) es h X K B x g = absurd (open_not (held_from y) (sym h.1))
+      let e : 0 + X ≡ X = omega arith in
+      let d : 0 + B ≡ B = omega arith in
+      rw (e, d) g
+  answer_shut (Opened y) es h X K B x g = absurd (cc)
 
   answer_one : (y : Since) → Fits p y → W ≤ y.window → y.tick ≤ a → (X K B : ℕ) (x : Answer) → TotalRight X K B x
       → TotalRight (true_sum W a (Opened y) + X) (join_k (Opened y) K) (count_of (Opened y) + B)
@@ -77,7 +58,7 @@ module _ (p a W : ℕ) where
       record {
         right = right_from (true_sum W a (Opened y) + X) (smaller y.k K) (count_of (Opened y) + B) (joined u x)
             (omega (arith, b.under, c.under)) (omega (arith, b.over, c.over))
-            (subst (λ (n : ℕ). smaller u.k x.k * n ≤ 2 * (true_sum W a (Opened y) + X)) (sym same) gap)
+            (rw same gap)
             (ap (λ (n : ℕ). smaller n x.k) b.own_k ∙ ap (smaller y.k) c.own_k)
             (ap (λ (n : ℕ). count_of (Opened y) + n) c.own_buckets);
         none = λ e. absurd (smaller-pos u.k x.k pos e);
@@ -86,11 +67,10 @@ module _ (p a W : ℕ) where
   answer_open : (y : Standing) (held : Held) (es : List Entry) → Holds p y (Open held) es → held.tick ≤ a → W ≤ held.window
       → (X K B : ℕ) (x : Answer) → TotalRight X K B x
       → TotalRight (true_sum W a y + X) (join_k y K) (count_of y + B) (joined (answer a W held es) x)
-  answer_open Shut held es h ta wn X K B x g = absurd (open_not held h)
+  answer_open Shut held es h ta wn X K B x g = absurd (cc)
   answer_open (Opened y) held es h ta wn X K B x g =
-      at_open p y held es (λ u r. u.tick ≤ a → W ≤ u.window
-      → TotalRight (true_sum W a (Opened y) + X) (join_k (Opened y) K) (count_of (Opened y) + B) (joined (answer a W u r) x)) h
-      (λ ta' wn'. answer_one y h.0 wn' ta' X K B x g) ta wn
+      let e : held ≡ held_from y = cc in
+      rw (e, h.2) (answer_one y h.0 (rw e at wn) (rw e at ta) X K B x g)
 
   -- what a total asks of the open tracks
   abbrev pub Asks : List Track → Type 0
@@ -98,30 +78,27 @@ module _ (p a W : ℕ) where
   Asks (Unopened ∷ tracks) = Asks tracks
   Asks (Open held ∷ tracks) = (held.tick ≤ a) × (W ≤ held.window) × Asks tracks
 
-  pub total_asks : (i : ℕ) (slab : List Entry) (tracks : List Track) → verdict (total_tests p a W i slab tracks) ≡ None → Asks tracks
-  total_asks i slab [] e = tt
-  total_asks i slab (Unopened ∷ tracks) e = total_asks (suc i) slab tracks e
-  total_asks i slab (Open held ∷ tracks) e =
-      let early = both_pass (when (ltb a held.tick) (EarlyTick i)) _ e in
-      let window = both_pass (when (not (between 1 held.window W)) (BadWindow i)) _ early.1 in
-      let sound = both_pass (when (not (is_sound held (stretch_at p i slab))) (Unsound i)) (verdict (total_tests p a W (suc i) slab tracks)) window.1 in (
-        ltb-false a held.tick (when_passes _ (EarlyTick i) early.0),
-        leb-true W held.window (and_parts (leb 1 W) (leb W held.window) (not-false _ (when_passes _ (BadWindow i) window.0))).1,
-        total_asks (suc i) slab tracks sound.1,
-      )
+  pub total_asks : (i : ℕ) (slab : List Entry) (tracks : List Track) → Passed (total_tests p a W i slab tracks) → Asks tracks
+  total_asks i slab [] t = tt
+  total_asks i slab (Unopened ∷ tracks) t = total_asks (suc i) slab tracks t
+  total_asks i slab (Open held ∷ tracks) t = (
+    not_below a held.tick (EarlyTick i) t.0,
+    (is_between 1 held.window W (BadWindow i) t.1.0).1,
+    total_asks (suc i) slab tracks t.1.1.1,
+  )
 
 module _ (s : Shape) (w : ℕ → ℕ) (a W : ℕ) where
   tests_shut : (i : ℕ) (y : Standing) (es : List Entry) → Holds s.stretch y Unopened es → (tests causes : List (Option CallFault))
       → verdict tests ≡ verdict causes → verdict tests ≡ verdict (join_causes i a W y causes)
   tests_shut i Shut es h tests causes e = e
-  tests_shut i (Opened x) es h tests causes e = absurd (open_not (held_from x) (sym h.1))
+  tests_shut i (Opened x) es h tests causes e = absurd (cc)
 
   tests_open : (i : ℕ) (y : Standing) (held : Held) (es : List Entry) → Holds s.stretch y (Open held) es → (tests causes : List (Option CallFault))
       → verdict tests ≡ verdict causes → verdict (ask_tests i a W held es tests) ≡ verdict (join_causes i a W y causes)
-  tests_open i Shut held es h tests causes e = absurd (open_not held h)
+  tests_open i Shut held es h tests causes e = absurd (cc)
   tests_open i (Opened x) held es h tests causes e =
-      at_open s.stretch x held es (λ u r. verdict (ask_tests i a W u r tests) ≡ verdict (join_causes i a W (Opened x) causes)) h
-      (ask_tests_lem s w i x h.0 a W tests causes e)
+      let same : held ≡ held_from x = cc in
+      rw (same, h.2) (ask_tests_lem s w i x h.0 a W tests causes e)
 
   module _ (h : History) (slab : List Entry) where
     -- the tracks from i on hold what the history says
@@ -134,11 +111,8 @@ module _ (s : Shape) (w : ℕ → ℕ) (a W : ℕ) where
         → Tracks i tracks
     tracks_from i [] f = tt
     tracks_from i (track ∷ tracks) f = (
-      let e : i + 0 ≡ i = omega arith in
-          subst (λ (n : ℕ). Holds s.stretch (since w n h) track (stretch_at s.stretch n slab)) e (f 0 (omega arith)),
-      tracks_from (suc i) tracks (λ q lt.
-          let e : i + suc q ≡ suc i + q = omega arith in
-          subst (λ (n : ℕ). Holds s.stretch (since w n h) (get_or tracks q Unopened) (stretch_at s.stretch n slab)) e (f (suc q) (omega arith))),
+      let e : i + 0 ≡ i = omega arith in rw e at (f 0 (omega arith)),
+      tracks_from (suc i) tracks (λ q lt. let e : i + suc q ≡ suc i + q = omega arith in rw e at (f (suc q) (omega arith))),
     )
 
     pub total_tests_lem : (i : ℕ) (tracks : List Track) → Tracks i tracks

@@ -1,9 +1,9 @@
 -- One open track: what its history makes of its record and its stretch.
-use Rattle.std.proofs.Common.{◌≡◌, ℕ, zero, suc, ◌+◌, ◌-◌, ◌*◌, ◌/◌, ◌^◌, ◌<◌, ◌≤◌, true, ltb, ◌⊎◌, List, [], ◌∷◌, ◌++◌, length, take, drop, sym, refl, ap, ◌∙◌, subst, inl, inr, mul-le-mul, mul-le-mul_left, arith}
+use Rattle.std.proofs.Common.{◌≡◌, ℕ, zero, suc, ◌+◌, ◌-◌, ◌*◌, ◌/◌, ◌^◌, ◌<◌, ◌≤◌, true, List, [], ◌++◌, length, take, drop, sym, refl, ap, ◌∙◌, mul-le-mul, mul-le-mul_left, arith}
 use Rattle.histogram.proofs.EnterLaws.{zeros-zero}
 use Rattle.histogram.proofs.StretchLaws.{stretch_from}
 use Rattle.histogram.specs.Settings.{room}
-use Rattle.law.proofs.ArrivalLaws.{InOrder, at_other, at_same, at_sum, in_order_later, none_at, truth-sum, units}
+use Rattle.law.proofs.ArrivalLaws.{InOrder, at_same, at_sum, in_order_later, none_at, truth-sum, units}
 use Rattle.law.proofs.LargestLaws.{largest_is}
 use Rattle.law.proofs.SlabLaws.{padded-length}
 use Rattle.law.specs.Calls.{answer, is_sound, padded, weight_at}
@@ -11,26 +11,20 @@ use Rattle.law.specs.Law.{ExponentFor, FewBuckets, KeptAs, Right}
 use Rattle.law.specs.Runs.{Since, buckets_of, lined, own_sum, sum_at, sum_in}
 use Rattle.law.specs.Tracks.{Held, largest}
 use Rattle.law.specs.declared.kinds.Answer.{Answer}
-use Rattle.std.proofs.lemmas.List.{drop_at, take_at, take-replicate}
-use Rattle.std.proofs.lemmas.Bool.{cases_eq, cases_lt, cond-false, cond-true, le-ltb, lt-ltb}
+use Rattle.std.proofs.lemmas.List.{drop_at, length-append, length-replicate, length-take, places, same_lists, take_at}
+use Rattle.std.proofs.lemmas.Bool.Decides.{nat_tests}
 use Rattle.theory.proofs.FormLaws.{formed_levels}
 use Rattle.theory.proofs.FullLaws.{few_buckets, insertion_sound, never_full, window_few, within_all}
 use Rattle.theory.proofs.KeepLaws.{brackets_truth, dropping_keeps, empty_keeps, insertions_keep}
 use Rattle.theory.proofs.SoundLaws.{sound_from, sound_says}
 use Rattle.theory.specs.Arrivals.{Keeps, truth}
-use Rattle.theory.specs.Buckets.{closing_figure, high, low, top, total, within}
-use Rattle.theory.specs.Sound.{every, is_zero, sound_buckets, zero_entry, zeros}
+use Rattle.theory.specs.Buckets.{closing_figure, top, total, within}
+use Rattle.theory.specs.Sound.{every, is_zero, sound_buckets, zeros}
 use Rattle.theory.specs.declared.entries.Entry.{Entry}
 
 -- a stretch with buckets that fit it
-padded_more : (m p : ℕ) (bs : List Entry) → length bs ≤ p → p ≤ length bs + m → take p (bs ++ zeros m) ≡ bs ++ zeros (p - length bs)
-padded_more m p [] h k = take-replicate p m zero_entry (omega arith) ∙ ap zeros (omega arith)
-padded_more m zero (b ∷ bs) h k = absurd (omega arith)
-padded_more m (suc p) (b ∷ bs) h k =
-    ap {B = List Entry} (λ r. b ∷ r) (padded_more m p bs (omega arith) (omega arith) ∙ ap (λ (n : ℕ). bs ++ zeros n) (omega arith))
-
 pub padded_is : (p : ℕ) (bs : List Entry) → length bs ≤ p → padded p bs ≡ bs ++ zeros (p - length bs)
-padded_is p bs h = padded_more p p bs h (omega arith)
+padded_is p bs h = same_lists _ _ (simp (length-take, length-append, length-replicate) (omega arith)) (λ k d lt. grind (arith, places))
 
 pub padded-take : (p : ℕ) (bs : List Entry) → length bs ≤ p → take (length bs) (padded p bs) ≡ bs
 padded-take p bs h = ap (take (length bs)) (padded_is p bs h) ∙ take_at bs (zeros (p - length bs)) (length bs) refl
@@ -122,40 +116,31 @@ module _ (p : ℕ) (x : Since) (h : Fits p x) where
       let bs : List Entry = buckets_of x in
       let is : truth W a (units x.lines) ≡ sum_in W a x.lines = truth-sum W a x.tick x.lines h.order ta in
       let b = brackets_truth (half_of x) x.window x.tick (units x.lines) bs W a h.keeps wn ta in
-      subst (λ (r : List Entry). Right (sum_in W a x.lines) x.k (length bs) (record {
-        low = low (within W a r);
-        high = high (within W a r);
-        k = 2 * half_of x;
-        buckets = length bs;
-      })) (sym (padded-take p bs buckets_fit))
-      (right_from (sum_in W a x.lines) x.k (length bs) (record {
-        low = low (within W a bs);
-        high = high (within W a bs);
-        k = 2 * half_of x;
-        buckets = length bs;
-      }) (omega (arith, b.under, is)) (omega (arith, b.over, is)) (omega (arith, b.close, is)) (sym h.even) refl)
+      rw (padded-take p bs buckets_fit)
+      (right_from (sum_in W a x.lines) x.k (length bs) _
+      (omega (arith, b.under, is)) (omega (arith, b.over, is)) (omega (arith, b.close, is)) (sym h.even) refl)
 
-  -- few buckets, by the own sum
+  -- few buckets, by the own sum; none are few
+  few_if : (r : ℕ) → (1 ≤ length (buckets_of x) → length (buckets_of x) ≤ (half_of x + 1) * (r + 1))
+      → length (buckets_of x) ≤ (half_of x + 1) * (r + 1)
+  few_if r f = grind arith
+
   exponent_own : (sum : ℕ) → (1 ≤ length (buckets_of x) → half_of x * (2 ^ top (buckets_of x) - 1) < sum) → FewBuckets (half_of x) sum (length (buckets_of x))
-  exponent_own zero below = record { r = 0; largest = refl; few = go (cases_lt 0 (length (buckets_of x))) }
-    where
-      go : (0 < length (buckets_of x)) ⊎ (length (buckets_of x) ≤ 0) → length (buckets_of x) ≤ (half_of x + 1) * (0 + 1)
-      go (inl some) = absurd (omega (arith, below some))
-      go (inr none) = omega arith
-  exponent_own (suc m) below = record { r = largest (half_of x) (suc m); largest = is; few = go (cases_lt 0 (length (buckets_of x))) }
-    where
-      is : ExponentFor (half_of x) (suc m) (largest (half_of x) (suc m))
-      is = largest_is (half_of x) (suc m) h.half_pos (omega arith)
-
-      go : (0 < length (buckets_of x)) ⊎ (length (buckets_of x) ≤ 0) → length (buckets_of x) ≤ (half_of x + 1) * (largest (half_of x) (suc m) + 1)
-      go (inl some) =
-          let up : top (buckets_of x) + 1 ≤ largest (half_of x) (suc m) + 1 = omega (arith, is.last (top (buckets_of x)) (below some)) in
-          omega (
-            arith,
-            (few_buckets (half_of x) x.window x.tick (units x.lines) (buckets_of x) h.keeps some).few,
-            mul-le-mul_left (half_of x + 1) up,
-          )
-      go (inr none) = omega arith
+  exponent_own zero below = record { r = 0; largest = refl; few = few_if 0 (λ some. absurd (omega (arith, below some))) }
+  exponent_own (suc m) below =
+      let r : ℕ = largest (half_of x) (suc m) in
+      let is : ExponentFor (half_of x) (suc m) r = largest_is (half_of x) (suc m) h.half_pos (omega arith) in
+      record {
+        r = r;
+        largest = is;
+        few = few_if r (λ some.
+            let up : top (buckets_of x) + 1 ≤ r + 1 = omega (arith, is.last (top (buckets_of x)) (below some)) in
+            omega (
+              arith,
+              (few_buckets (half_of x) x.window x.tick (units x.lines) (buckets_of x) h.keeps some).few,
+              mul-le-mul_left (half_of x + 1) up,
+            ));
+      }
 
   pub few_own : FewBuckets (half_of x) (own_sum x) (length (buckets_of x))
   few_own = exponent_own (own_sum x) (λ some.
@@ -180,26 +165,16 @@ module _ (p : ℕ) (x : Since) (h : Fits p x) where
 module _ (p : ℕ) (x : Since) (h : Fits p x) (t v : ℕ) (later : x.tick ≤ t) where
   -- the weight at the tick, by the record and by the history
   pub weight_is : weight_at (held_from x) t ≡ sum_at t x.lines
-  weight_is = go (cases_lt x.tick t)
-    where
-      go : (x.tick < t) ⊎ (t ≤ x.tick) → weight_at (held_from x) t ≡ sum_at t x.lines
-      go (inl lt) =
-          cond-true (ltb x.tick t) 0 (sum_at x.tick x.lines) (lt-ltb x.tick t lt)
-          ∙ sym (none_at x.tick t x.lines h.order lt)
-      go (inr le) =
-          cond-false (ltb x.tick t) 0 (sum_at x.tick x.lines) (le-ltb x.tick t le)
-          ∙ ap (λ (u : ℕ). sum_at u x.lines) (omega arith)
+  weight_is =
+      let past : x.tick < t → sum_at t x.lines ≡ 0 = none_at x.tick t x.lines h.order in
+      grind (arith, nat_tests)
 
   pub new_weight : weight_at (held_from x) t + v ≡ sum_at t (lined x t v).lines
   new_weight = omega (arith, weight_is, at_same t v)
 
   module _ (under : sum_at t x.lines + v ≤ x.cap) where
     lined_capped : (u : ℕ) → sum_at u (lined x t v).lines ≤ x.cap
-    lined_capped u = go (cases_eq t u)
-      where
-        go : (t ≡ u) ⊎ (t ≡ u → ⊥) → sum_at u (lined x t v).lines ≤ x.cap
-        go (inl e) = subst (λ (w : ℕ). sum_at w (lined x t v).lines ≤ x.cap) e (omega (arith, at_same t v))
-        go (inr ne) = omega (arith, at_other t u v ne, h.capped u)
+    lined_capped u = let c = h.capped u in grind (arith, nat_tests)
 
     lined_keeps : Keeps (half_of x) x.window t (units (lined x t v).lines) (buckets_of (lined x t v))
     lined_keeps =

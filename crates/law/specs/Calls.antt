@@ -12,9 +12,12 @@ use Rattle.law.specs.Tracks.{Held, Track, Unopened, Open, is_open, largest, Act,
 use Rattle.law.specs.declared.faults.CallFault.{CallFault}
 use Rattle.law.specs.declared.faults.CallFault.TheVariants.{SlabLength, NoSuchTrack, AlreadyOpen, LateTick, BadK, BadLongest, BadCap, NoRoom, NotOpen, EarlyTick, Text, Unsound, OverCap, Full, BadWindow, NoWindow}
 use Rattle.law.specs.declared.kinds.Answer.{Answer}
-use Rattle.law.specs.declared.kinds.Outcome.{Outcome}
-use Rattle.law.specs.declared.kinds.Outcome.TheVariants.{Done, Answered, Refused}
 use Rattle.law.specs.declared.shapes.Shape.{Shape}
+
+-- what a call gets: Ok None where it was accepted and answers nothing, Ok (Some x) where it was accepted and x is its answer,
+-- Err fault where it was refused, and programme and slab are as they were
+abbrev pub Outcome : Type 0
+Outcome = Result (Option Answer) CallFault
 
 -- the last tick, 2^40 − 1
 abbrev pub last_tick : ℕ
@@ -31,7 +34,7 @@ pub record Local : Type 0 where
   pub stretch : List Entry
 
 abbrev pub refused : CallFault → Track → List Entry → Local
-refused fault track stretch = record { outcome = Refused fault; track = track; stretch = stretch }
+refused fault track stretch = record { outcome = Err fault; track = track; stretch = stretch }
 
 -- a refusal by the first cause, which changes nothing; or what the accepted call does
 abbrev pub unless : List (Option CallFault) → Local → Track → List Entry → Local
@@ -61,7 +64,7 @@ opened t k N R =
 abbrev pub on_opening : (p t k N R : ℕ) → Track → List Entry → Local
 on_opening p t k N R track stretch =
     unless (opening_tests p t k N R track)
-    (record { outcome = Done; track = Open (opened t k N R); stretch = padded (length stretch) [] })
+    (record { outcome = Ok None; track = Open (opened t k N R); stretch = padded (length stretch) [] })
     track stretch
 
 -- LINE
@@ -119,7 +122,7 @@ on_line i t reading Unopened stretch = refused (NotOpen i) Unopened stretch
 on_line i t reading (Open h) stretch =
     unless (line_tests i t reading h stretch)
     (record {
-      outcome = Done;
+      outcome = Ok None;
       track = Open (with_line h t (weight_of reading) stretch);
       stretch = padded (length stretch) (entered h t (weight_of reading) stretch);
     })
@@ -147,14 +150,14 @@ abbrev pub on_question : (i a W : ℕ) → Track → List Entry → Local
 on_question i a W Unopened stretch = refused (NotOpen i) Unopened stretch
 on_question i a W (Open h) stretch =
     unless (when (nat_lt last_tick a) LateTick ∷ ask_tests i a W h stretch [])
-    (record { outcome = Answered (answer a W h stretch); track = Open h; stretch = stretch })
+    (record { outcome = Ok (Some (answer a W h stretch)); track = Open h; stretch = stretch })
     (Open h) stretch
 
 -- RETIRING
 
 abbrev pub on_retiring : ℕ → Track → List Entry → Local
 on_retiring i Unopened stretch = refused (NotOpen i) Unopened stretch
-on_retiring i (Open h) stretch = record { outcome = Done; track = Unopened; stretch = padded (length stretch) [] }
+on_retiring i (Open h) stretch = record { outcome = Ok None; track = Unopened; stretch = padded (length stretch) [] }
 
 -- what is done to track i, where a character c weighs w c
 abbrev pub acts : Shape → (w : ℕ → ℕ) → ℕ → Act → Track → List Entry → Local
@@ -184,7 +187,7 @@ pub record Got : Type 0 where
   pub state : State
 
 abbrev pub refusing : State → CallFault → Got
-refusing st fault = record { outcome = Refused fault; state = st }
+refusing st fault = record { outcome = Err fault; state = st }
 
 abbrev pub placed : Shape → ℕ → Local → State → Got
 placed s i d st =
@@ -240,7 +243,7 @@ totalled s a W st =
     ∷ when (nat_lt last_tick a) LateTick
     ∷ when (not (between 1 1048576 W)) NoWindow
     ∷ total_tests s.stretch a W 0 st.slab (tracks_of s st)))
-    (record { outcome = Answered (total_answer s.stretch a W 0 st.slab (tracks_of s st)); state = st })
+    (record { outcome = Ok (Some (total_answer s.stretch a W 0 st.slab (tracks_of s st))); state = st })
     (refusing st)
 
 -- ANY CALL
@@ -248,4 +251,4 @@ totalled s a W st =
 abbrev pub called : Shape → (w : ℕ → ℕ) → State → PlainCall → Got
 called s w st (At i act) = lifted s i (acts s w i act) st
 called s w st (Total a W) = totalled s a W st
-called s w st Ending = record { outcome = Done; state = st }
+called s w st Ending = record { outcome = Ok None; state = st }

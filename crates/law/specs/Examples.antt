@@ -1,5 +1,5 @@
 -- Worked examples: one table, and one statement about it.
-use Rattle.std.specs.Prelude.{◌≡◌, ℕ, List, [], ◌∷◌, map, length, take, Ok, codes}
+use Rattle.std.specs.Prelude.{◌≡◌, ℕ, List, [], ◌∷◌, map, length, take, Some, Ok, codes}
 use Rattle.std.specs.List.{AllByRecursion}
 use Rattle.text.specs.Texts.{weighed}
 use Rattle.text.specs.Weights.{blank_counting, blank_free}
@@ -7,7 +7,6 @@ use Rattle.theory.specs.Buckets.{size}
 use Rattle.theory.specs.Sound.{zeros}
 use Rattle.law.specs.Calls.{Local, on_line, on_opening, on_question, room_for}
 use Rattle.law.specs.Tracks.{Unopened}
-use Rattle.law.specs.declared.kinds.Outcome.TheVariants.{Answered}
 
 pub data Example : Type 0 where
   -- v characters at one tick, under k: the sizes of the buckets from the newest, and what is answered
@@ -28,9 +27,9 @@ asked k N R t v a W =
 
 abbrev pub Shown : Example → Type 0
 Shown (Characters k v sizes low high) =
-    ((asked k 1 v 0 v 0 1).outcome ≡ Answered (record { low = low; high = high; k = k; buckets = length sizes }))
+    ((asked k 1 v 0 v 0 1).outcome ≡ Ok (Some (record { low = low; high = high; k = k; buckets = length sizes })))
     × (map size (take (length sizes) (asked k 1 v 0 v 0 1).stretch) ≡ sizes)
-Shown (Asked N t a W low high) = (asked 2 N 1 t 1 a W).outcome ≡ Answered (record { low = low; high = high; k = 2; buckets = 1 })
+Shown (Asked N t a W low high) = (asked 2 N 1 t 1 a W).outcome ≡ Ok (Some (record { low = low; high = high; k = 2; buckets = 1 }))
 Shown (Room k N R room) = room_for k N R ≡ room
 Shown (Weight text counting free) = (weighed blank_counting text ≡ Ok counting) × (weighed blank_free text ≡ Ok free)
 

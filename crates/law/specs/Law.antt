@@ -1,10 +1,10 @@
 -- The law over runs: what every list of calls on a new programme, with one slab that may hold anything at first, gets and leaves.
-use Rattle.std.specs.Prelude.{◌≡◌, ℕ, zero, suc, ◌+◌, ◌-◌, ◌*◌, ◌/◌, ◌%◌, ◌<◌, ◌≤◌, not, ◌&&◌, List, [], ◌∷◌, ◌++◌, length, Some, None, Option, ◌==◌, ◌≢◌, nat_lt, slice_index_or}
+use Rattle.std.specs.Prelude.{◌≡◌, ℕ, zero, suc, ◌+◌, ◌-◌, ◌*◌, ◌/◌, ◌%◌, ◌<◌, ◌≤◌, not, ◌&&◌, List, [], ◌∷◌, ◌++◌, length, Some, None, Ok, Err, Option, ◌==◌, ◌≢◌, nat_lt, slice_index_or}
 use Rattle.text.specs.Texts.{Weighs, weighed}
 use Rattle.theory.specs.Arrivals.{Largest}
 use Rattle.theory.specs.Sound.{zeros}
 use Rattle.theory.specs.declared.entries.Entry.{Entry}
-use Rattle.law.specs.Calls.{State, last_tick, stretch_at, room_for, text_test}
+use Rattle.law.specs.Calls.{Outcome, State, last_tick, stretch_at, room_for, text_test}
 use Rattle.law.specs.Faults.{call_fault_number}
 use Rattle.law.specs.Runs.{Brought, Own, Other, Made, Event, History, run, Strangers, Since, Standing, Shut, Opened, since, sum_at, true_sum, own_sum, k_of, buckets_of, count_of, sum_over, least_k, count_over, line_weight}
 use Rattle.law.specs.Shapes.{entries}
@@ -13,8 +13,6 @@ use Rattle.law.specs.Tracks.{Held, Track, Unopened, Open, largest, Act, Opening,
 use Rattle.law.specs.declared.faults.CallFault.{CallFault}
 use Rattle.law.specs.declared.faults.CallFault.TheVariants.{SlabLength, NoSuchTrack, AlreadyOpen, LateTick, BadK, BadLongest, BadCap, NoRoom, NotOpen, EarlyTick, OverCap, BadWindow, NoWindow}
 use Rattle.law.specs.declared.kinds.Answer.{Answer}
-use Rattle.law.specs.declared.kinds.Outcome.{Outcome}
-use Rattle.law.specs.declared.kinds.Outcome.TheVariants.{Done, Answered, Refused}
 use Rattle.law.specs.declared.shapes.Shape.{Shape}
 
 -- ANSWERS
@@ -36,22 +34,22 @@ pub record Right (truth k buckets : ℕ) (x : Answer) : Type 0 where
 module _ (s : Shape) (w : ℕ → ℕ) where
   -- what a call got, after a history: an accepted question or total has an answer, and it is right
   abbrev pub AnswerRight : PlainCall → Outcome → History → Type 0
-  AnswerRight (At i (Question a W)) (Answered x) h = Right (true_sum W a (since w i h)) (k_of (since w i h)) (count_of (since w i h)) x
-  AnswerRight (At i (Question a W)) Done h = ⊥
-  AnswerRight (At i (Question a W)) (Refused fault) h = Unit {0}
+  AnswerRight (At i (Question a W)) (Ok (Some x)) h = Right (true_sum W a (since w i h)) (k_of (since w i h)) (count_of (since w i h)) x
+  AnswerRight (At i (Question a W)) (Ok None) h = ⊥
+  AnswerRight (At i (Question a W)) (Err fault) h = Unit {0}
   AnswerRight (At i (Opening t k N R)) outcome h = Unit {0}
   AnswerRight (At i (Line t text)) outcome h = Unit {0}
   AnswerRight (At i Retiring) outcome h = Unit {0}
-  AnswerRight (Total a W) (Answered x) h = Right (sum_over w W a 0 s.tracks h) (least_k w 0 s.tracks h) (count_over w 0 s.tracks h) x
-  AnswerRight (Total a W) Done h = ⊥
-  AnswerRight (Total a W) (Refused fault) h = Unit {0}
+  AnswerRight (Total a W) (Ok (Some x)) h = Right (sum_over w W a 0 s.tracks h) (least_k w 0 s.tracks h) (count_over w 0 s.tracks h) x
+  AnswerRight (Total a W) (Ok None) h = ⊥
+  AnswerRight (Total a W) (Err fault) h = Unit {0}
   AnswerRight Ending outcome h = Unit {0}
 
 -- the weight of an accepted line is the sum of the rule's weights over the scalar values that spell it
 abbrev pub LineWeighs : (w : ℕ → ℕ) → PlainCall → Outcome → Type 0
-LineWeighs w (At i (Line t text)) Done = Weighs w text (line_weight w text)
-LineWeighs w (At i (Line t text)) (Answered x) = Unit {0}
-LineWeighs w (At i (Line t text)) (Refused fault) = Unit {0}
+LineWeighs w (At i (Line t text)) (Ok None) = Weighs w text (line_weight w text)
+LineWeighs w (At i (Line t text)) (Ok (Some x)) = Unit {0}
+LineWeighs w (At i (Line t text)) (Err fault) = Unit {0}
 LineWeighs w (At i (Opening t k N R)) outcome = Unit {0}
 LineWeighs w (At i (Question a W)) outcome = Unit {0}
 LineWeighs w (At i Retiring) outcome = Unit {0}
@@ -111,15 +109,13 @@ causes s w (Total a W) b h =
 causes s w Ending b h = []
 
 abbrev pub refusal_of : Outcome → Option CallFault
-refusal_of Done = None
-refusal_of (Answered x) = None
-refusal_of (Refused fault) = Some fault
+refusal_of (Ok answer) = None
+refusal_of (Err fault) = Some fault
 
 -- the refusal of an unsound stretch, which is also that of a full one
 abbrev pub NotSixteen : Outcome → Type 0
-NotSixteen Done = Unit {0}
-NotSixteen (Answered x) = Unit {0}
-NotSixteen (Refused fault) = call_fault_number fault ≡ 16 → ⊥
+NotSixteen (Ok answer) = Unit {0}
+NotSixteen (Err fault) = call_fault_number fault ≡ 16 → ⊥
 
 -- WHAT EACH CALL OF A RUN GETS
 

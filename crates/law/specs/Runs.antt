@@ -1,13 +1,11 @@
 -- Runs of calls and their histories; and what a history alone tells of a track.
-use Rattle.std.specs.Prelude.{◌≡◌, ℕ, zero, suc, ◌+◌, ◌/◌, cond, ◌&&◌, List, [], ◌∷◌, length, replicate, ◌==◌, nat_le, nat_lt}
+use Rattle.std.specs.Prelude.{◌≡◌, ℕ, zero, suc, ◌+◌, ◌/◌, cond, ◌&&◌, List, [], ◌∷◌, length, replicate, Some, None, Ok, Err, ◌==◌, nat_le, nat_lt}
 use Rattle.text.specs.Texts.{weighed}
 use Rattle.theory.specs.Buckets.{insertions, within}
 use Rattle.theory.specs.declared.entries.Entry.{Entry}
-use Rattle.law.specs.Calls.{State, Got, called, weight_of, smaller}
+use Rattle.law.specs.Calls.{Outcome, State, Got, called, weight_of, smaller}
 use Rattle.law.specs.Shapes.{entries}
 use Rattle.law.specs.Tracks.{Unopened, Act, Opening, Line, Question, Retiring, PlainCall, At, Total, Ending}
-use Rattle.law.specs.declared.kinds.Outcome.{Outcome}
-use Rattle.law.specs.declared.kinds.Outcome.TheVariants.{Done, Answered, Refused}
 use Rattle.law.specs.declared.shapes.Shape.{Shape}
 
 -- RUNS
@@ -111,9 +109,9 @@ module _ (w : ℕ → ℕ) where
 
   -- what a call makes of track i, by what it got
   abbrev pub changed : ℕ → PlainCall → Outcome → Standing → Standing
-  changed i (At j act) Done x = cond (i == j) (acted act x) x
-  changed i (At j act) (Answered answer) x = x
-  changed i (At j act) (Refused fault) x = x
+  changed i (At j act) (Ok None) x = cond (i == j) (acted act x) x
+  changed i (At j act) (Ok (Some answer)) x = x
+  changed i (At j act) (Err fault) x = x
   changed i (Total a W) outcome x = x
   changed i Ending outcome x = x
 

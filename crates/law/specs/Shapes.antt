@@ -1,7 +1,7 @@
 -- Which shapes there are, and how their tracks share a slab.
 use Rattle.std.specs.Prelude.{◌≡◌, ℕ, ◌*◌, ◌≤◌, Ok, Err, Result}
-use Rattle.law.specs.declared.limits.ShapeFault.{ShapeFault}
-use Rattle.law.specs.declared.limits.ShapeFault.TheVariants.{Tracks, Stretch, Rate}
+use Rattle.law.specs.declared.shapes.ShapeFault.{ShapeFault}
+use Rattle.law.specs.declared.shapes.ShapeFault.TheVariants.{Tracks, Stretch, Rate}
 use Rattle.law.specs.declared.shapes.Shape.{Shape}
 
 -- x is from a to b

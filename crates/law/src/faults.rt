@@ -1,9 +1,10 @@
 //! Why a call is refused.
 ghost use Rattle.std.specs.Prelude.{◌≡◌};
+ghost use Rattle.std.proofs.Common.{rules};
 ghost use Rattle.law.specs.Faults.{call_fault_number, call_fault_place};
 ghost use Rattle.law.specs.declared.faults.CallFault.TheVariants.{Text};
 
-use text::TextFault;
+use text::{Refusal, TextFault};
 
 /// Why a call is refused, with what the refusal reports.
 #[derive(Clone, Copy, Debug, PartialEq, Eq)]
@@ -42,11 +43,12 @@ pub enum CallFault {
     NoWindow,
 }
 
-impl CallFault {
-    /// The number under which the refusal is reported.
-    pub fn number(&self) -> u16
-        ensures value { result ≡ call_fault_number self.now }
-    {
+impl Refusal for CallFault {
+    ghost number_of = { call_fault_number };
+
+    ghost place_of = { call_fault_place };
+
+    fn number(&self) -> u16 {
         match self {
             CallFault::SlabLength => 4,
             CallFault::NoSuchTrack => 5,
@@ -65,10 +67,8 @@ impl CallFault {
         }
     }
 
-    /// The place that is reported with the number: the room, the track, the text's own place, or 0.
-    pub fn place(&self) -> u64
-        ensures value { result ≡ call_fault_place self.now }
-    {
+    /// The room, the track, the text's own place, or 0.
+    fn place(&self) -> u64 {
         match self {
             CallFault::NoRoom { room } => *room,
             CallFault::NotOpen { track }
@@ -81,6 +81,8 @@ impl CallFault {
             _ => 0,
         }
     }
+
+    ghost numbered = { Prim.search rules };
 }
 
 impl From<TextFault> for CallFault {

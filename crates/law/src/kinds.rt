@@ -5,7 +5,7 @@ use super::faults::CallFault;
 pub const LAST_TICK: u64 = 1_099_511_627_775;
 
 /// One of the six calls on a programme, with its numbers as they were handed in.
-#[derive(Clone, Copy)]
+#[derive(Clone, Copy, Debug, PartialEq, Eq)]
 pub enum Call<'a> {
     Opening {
         track: u64,
@@ -44,13 +44,6 @@ pub struct Answer {
     pub buckets: u64,
 }
 
-/// What a call gets.
-#[derive(Clone, Copy, Debug, PartialEq, Eq)]
-pub enum Outcome {
-    /// It was accepted, and answers nothing.
-    Done,
-    /// It was accepted, and this is its answer.
-    Answered(Answer),
-    /// It was refused, and programme and slab are as they were.
-    Refused(CallFault),
-}
+/// What a call gets: `Ok(None)` where it was accepted and answers nothing, `Ok(Some(answer))` where it was accepted and this is
+/// its answer, and `Err(fault)` where it was refused, and programme and slab are as they were.
+pub type Outcome = Result<Option<Answer>, CallFault>;

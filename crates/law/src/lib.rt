@@ -7,12 +7,11 @@
 
 mod faults;
 mod kinds;
-mod limits;
 mod shapes;
 mod theorems;
 
 pub use faults::CallFault;
 pub use kinds::{Answer, Call, LAST_TICK, Outcome};
-pub use limits::ShapeFault;
-pub use shapes::{MOST_TRACKS, Shape};
+pub use shapes::{MOST_TRACKS, Shape, ShapeFault};
+pub use text::Refusal;
 pub use theorems::{largest_is_largest, law_over_runs, worked_examples};

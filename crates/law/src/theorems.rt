@@ -11,9 +11,7 @@ use text::CountingRule;
 /// refusal has its cause, an unsound stretch is never found, and calls on different tracks can change places.
 pub fn law_over_runs<R: CountingRule>(rule: &R)
     ensures holds { LawOverRuns (R.weight rule.now) }
-{
-    let _ = rule;
-}
+{}
 
 /// The exponent by which a room is worked out is the largest whole number r with l × (2^r − 1) below N × R.
 pub fn largest_is_largest()

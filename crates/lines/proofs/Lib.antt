@@ -1,2 +1,2 @@
-mod Copied
+mod FirstEnd
 pub mod LineLaws

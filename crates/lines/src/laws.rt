@@ -1,30 +1,22 @@
-//! The laws of cutting a stream into lines. Each function's contract is a law, and its call does nothing.
+//! The laws of cutting a stream into lines. Each function's contract is a law, and it does nothing.
 ghost use Rattle.lines.specs.Lines.{ByLength, Cuts, Kept, Pieces};
 
 /// However the bytes arrive in pieces, the lines are the same.
-pub fn pieces() -> bool
+pub fn pieces()
     ensures { Pieces }
-{
-    true
-}
+{}
 
 /// To keep the first bytes as pieces come is to keep the first bytes of the whole line.
-pub fn kept() -> bool
+pub fn kept()
     ensures { Kept }
-{
-    true
-}
+{}
 
 /// The length of a line says whether it ends in the bytes, and where.
-pub fn by_length() -> bool
+pub fn by_length()
     ensures { ByLength }
-{
-    true
-}
+{}
 
 /// The lines and the rest are the stream's bytes, and no other lines are.
-pub fn cuts() -> bool
+pub fn cuts()
     ensures { Cuts }
-{
-    true
-}
+{}

@@ -5,11 +5,11 @@
 //! holds, and where the piece goes on, the line has ended there, and the next begins after its byte 10.
 #![tactic(auto)]
 
-ghost use Rattle.std.specs.Prelude.{◌≡◌, ◌≤◌, [], ◌++◌, length, take, ◌==◌};
-ghost use Rattle.lines.specs.Held.{held};
+ghost use Rattle.std.specs.Prelude.{◌≡◌, ◌≤◌, length};
 ghost use Rattle.lines.specs.Lines.{line_length};
 
 pub use held::HeldLine;
+use memchr::memchr;
 
 mod held;
 pub mod laws;
@@ -18,63 +18,12 @@ pub mod laws;
 pub const LINE_END: u8 = 10;
 
 /// How many bytes stand before the first [`LINE_END`]: all of them if there is none.
+#[tactic(auto, using(crate::proofs::FirstEnd::first_end))]
 pub fn line_length(bytes: &[u8]) -> usize
     ensures value { result ≡ line_length bytes.now }
     ensures within { result ≤ length bytes.now }
 {
-    for (i, b) in bytes.iter().enumerate() {
-        if *b == LINE_END {
-            return i;
-        }
-    }
-    bytes.len()
-}
-
-impl<const LIMIT: usize> HeldLine<LIMIT> {
-    /// A line of which nothing has come.
-    pub fn new() -> Self
-        ensures made { held result ≡ [] }
-    {
-        HeldLine {
-            bytes: [0; LIMIT],
-            len: 0,
-        }
-    }
-
-    /// The bytes that are kept of the line.
-    pub fn bytes(&self) -> &[u8]
-        ensures value { result.now ≡ held self.now }
-    {
-        let all = &self.bytes[..];
-        &all[0..self.len]
-    }
-
-    /// Whether no byte is kept.
-    pub fn is_empty(&self) -> bool
-        ensures value { result ≡ (length (held self.now) == 0) }
-    {
-        self.bytes().is_empty()
-    }
-
-    /// Adds the next piece of the line, and keeps the first `LIMIT` bytes of the whole.
-    pub fn extend(&mut self, piece: &[u8])
-        ensures after { held self.new ≡ take LIMIT (held self.old ++ piece.now) }
-    {
-        let start = self.len;
-        let more = piece.len().min(LIMIT - start);
-        // Byte by byte, since the check does not follow an array of any length once it is lent as a slice.
-        for i in 0..more {
-            self.bytes[start + i] = piece[i];
-        }
-        self.len = start + more;
-    }
-
-    /// Begins the next line: nothing is kept.
-    pub fn clear(&mut self)
-        ensures after { held self.new ≡ [] }
-    {
-        self.len = 0;
-    }
+    memchr(LINE_END, bytes).unwrap_or(bytes.len())
 }
 
 #[cfg(test)]

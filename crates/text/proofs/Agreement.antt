@@ -1,7 +1,7 @@
 -- The encoding of RFC 3629's table and the one of the language's library are the same.
 use Rattle.std.proofs.Common.{◌≡◌, ℕ, ◌+◌, ◌/◌, ◌<◌, ◌≤◌, true, ◌↔◌, List, [], ◌∷◌, ◌++◌, sym, refl, ◌∙◌, inl, inr, ⊎_elim, arith}
 use lib.Utf8 as library
-use Rattle.std.proofs.lemmas.Bool.{cond-true, cond-false, lt-ltb, le-ltb, cases_lt, and_parts, and_from}
+use Rattle.std.proofs.lemmas.Bool.{cases_lt, and_parts, and_from}
 use Rattle.std.proofs.lemmas.Str.{encode_ascii}
 use Rattle.std.proofs.lemmas.Bool.Decides.{nat_tests}
 use Rattle.std.specs.List.{AllByRecursion}
@@ -14,21 +14,18 @@ scalar_agrees c = (λ h. grind (arith, nat_tests), λ h. ⊎_elim (λ low. (omeg
 -- the library divides at once where the table's bits are taken six by six
 library_two : (c : ℕ) → 0x7F < c → c ≤ 0x7FF → library.encode c ≡ (0b1100_0000 + c / 64) ∷ later c ∷ []
 unfolding library.encode
-library_two c g h = cond-false _ _ _ (le-ltb c 128 g) ∙ cond-true _ _ _ (lt-ltb c 2048 (omega arith))
+library_two c g h = grind (arith, nat_tests)
 
 library_three : (c : ℕ) → 0x7FF < c → c ≤ 0xFFFF → library.encode c ≡ (0b1110_0000 + c / 64 / 64) ∷ later (c / 64) ∷ later c ∷ []
 unfolding library.encode
-library_three c g h =
-    let q : c / 4096 ≡ c / 64 / 64 = omega arith in
-    cond-false _ _ _ (le-ltb c 128 (omega arith)) ∙ cond-false _ _ _ (le-ltb c 2048 g) ∙ cond-true _ _ _ (lt-ltb c 65536 (omega arith)) ∙ (λ i. (0b1110_0000 + q i) ∷ later (c / 64) ∷ later c ∷ [])
+library_three c g h = let q : c / 4096 ≡ c / 64 / 64 = omega arith in grind (arith, nat_tests)
 
 library_four : (c : ℕ) → 0xFFFF < c → library.encode c ≡ (0b1111_0000 + c / 64 / 64 / 64) ∷ later (c / 64 / 64) ∷ later (c / 64) ∷ later c ∷ []
 unfolding library.encode
 library_four c g =
     let q : c / 4096 ≡ c / 64 / 64 = omega arith in
     let p : c / 262144 ≡ c / 64 / 64 / 64 = omega arith in
-    cond-false _ _ _ (le-ltb c 128 (omega arith)) ∙ cond-false _ _ _ (le-ltb c 2048 (omega arith)) ∙ cond-false _ _ _ (le-ltb c 65536 g)
-    ∙ (λ i. (0b1111_0000 + p i) ∷ later (q i) ∷ later (c / 64) ∷ later c ∷ [])
+    grind (arith, nat_tests)
 
 encode_agrees : (c : ℕ) → encode c ≡ library.encode c
 encode_agrees c =

@@ -1,22 +1,24 @@
 -- Laws of the encoding: the bytes of each length, what a text begins with, and that the language's library agrees.
 use Rattle.std.proofs.Common.{◌≡◌, ℕ, ◌+◌, ◌-◌, ◌*◌, ◌/◌, ◌%◌, ◌<◌, ◌≤◌, ◌⊎◌, List, [], ◌∷◌, ◌++◌, length, get_or, drop, Ok, Err, Result, sym, refl, ap, ◌∙◌, subst, inl, inr, ⊎_elim, arith}
-use Rattle.std.proofs.lemmas.Bool.{cond-true, cond-false, le-leb, lt-leb, cases_lt}
+use Rattle.std.proofs.Math.Seq.{drop-cons}
+use Rattle.std.proofs.lemmas.Bool.{cases_lt}
+use Rattle.std.proofs.lemmas.Bool.Decides.{nat_tests}
 use Rattle.text.specs.Characters.{Begins, Reads, ReadsExactly, OneBegins}
 use Rattle.text.specs.Encoding.{later, encode}
 use Rattle.text.specs.declared.faults.TextFault.{TextFault}
 use Rattle.text.specs.declared.faults.TextFault.TheVariants.{Malformed}
 
 pub encode_one : (c : ℕ) → c ≤ 0x7F → encode c ≡ c ∷ []
-encode_one c h = cond-true _ _ _ (le-leb c 0x7F h)
+encode_one c h = grind (arith, nat_tests)
 
 pub encode_two : (c : ℕ) → 0x7F < c → c ≤ 0x7FF → encode c ≡ (0b1100_0000 + c / 64) ∷ later c ∷ []
-encode_two c g h = cond-false _ _ _ (lt-leb c 0x7F g) ∙ cond-true _ _ _ (le-leb c 0x7FF h)
+encode_two c g h = grind (arith, nat_tests)
 
 pub encode_three : (c : ℕ) → 0x7FF < c → c ≤ 0xFFFF → encode c ≡ (0b1110_0000 + c / 64 / 64) ∷ later (c / 64) ∷ later c ∷ []
-encode_three c g h = cond-false _ _ _ (lt-leb c 0x7F (omega arith)) ∙ cond-false _ _ _ (lt-leb c 0x7FF g) ∙ cond-true _ _ _ (le-leb c 0xFFFF h)
+encode_three c g h = grind (arith, nat_tests)
 
 pub encode_four : (c : ℕ) → 0xFFFF < c → encode c ≡ (0b1111_0000 + c / 64 / 64 / 64) ∷ later (c / 64 / 64) ∷ later (c / 64) ∷ later c ∷ []
-encode_four c g = cond-false _ _ _ (lt-leb c 0x7F (omega arith)) ∙ cond-false _ _ _ (lt-leb c 0x7FF (omega arith)) ∙ cond-false _ _ _ (lt-leb c 0xFFFF g)
+encode_four c g = grind (arith, nat_tests)
 
 -- the first bytes of a text that begins with c, by the four lengths of a sequence
 pub record One (s : List ℕ) (c : ℕ) : Type 0 where
@@ -78,27 +80,18 @@ pub one_begins : OneBegins
 one_begins s c d x y = let p = begins_shape s c x in let q = begins_shape s d y in omega arith
 
 -- a text that is long enough, by its first bytes
-pub front1 : (s : List ℕ) → 1 ≤ length s → s ≡ get_or s 0 0 ∷ drop 1 s
-front1 [] h = absurd (omega arith)
-front1 (a ∷ s) h = refl
+module _ (s : List ℕ) where
+  pub front1 : 1 ≤ length s → s ≡ get_or s 0 0 ∷ drop 1 s
+  front1 h = drop-cons s 0 0 h
 
-pub front2 : (s : List ℕ) → 2 ≤ length s → s ≡ get_or s 0 0 ∷ get_or s 1 0 ∷ drop 2 s
-front2 [] h = absurd (omega arith)
-front2 (a ∷ []) h = absurd (omega arith)
-front2 (a ∷ b ∷ s) h = refl
+  pub front2 : 2 ≤ length s → s ≡ get_or s 0 0 ∷ get_or s 1 0 ∷ drop 2 s
+  front2 h = front1 (omega arith) ∙ ap (λ l. get_or s 0 0 ∷ l) (drop-cons s 1 0 h)
 
-pub front3 : (s : List ℕ) → 3 ≤ length s → s ≡ get_or s 0 0 ∷ get_or s 1 0 ∷ get_or s 2 0 ∷ drop 3 s
-front3 [] h = absurd (omega arith)
-front3 (a ∷ []) h = absurd (omega arith)
-front3 (a ∷ b ∷ []) h = absurd (omega arith)
-front3 (a ∷ b ∷ c ∷ s) h = refl
+  pub front3 : 3 ≤ length s → s ≡ get_or s 0 0 ∷ get_or s 1 0 ∷ get_or s 2 0 ∷ drop 3 s
+  front3 h = front2 (omega arith) ∙ ap (λ l. get_or s 0 0 ∷ get_or s 1 0 ∷ l) (drop-cons s 2 0 h)
 
-pub front4 : (s : List ℕ) → 4 ≤ length s → s ≡ get_or s 0 0 ∷ get_or s 1 0 ∷ get_or s 2 0 ∷ get_or s 3 0 ∷ drop 4 s
-front4 [] h = absurd (omega arith)
-front4 (a ∷ []) h = absurd (omega arith)
-front4 (a ∷ b ∷ []) h = absurd (omega arith)
-front4 (a ∷ b ∷ c ∷ []) h = absurd (omega arith)
-front4 (a ∷ b ∷ c ∷ d ∷ s) h = refl
+  pub front4 : 4 ≤ length s → s ≡ get_or s 0 0 ∷ get_or s 1 0 ∷ get_or s 2 0 ∷ get_or s 3 0 ∷ drop 4 s
+  front4 h = front3 (omega arith) ∙ ap (λ l. get_or s 0 0 ∷ get_or s 1 0 ∷ get_or s 2 0 ∷ l) (drop-cons s 3 0 h)
 
 -- and the other way round: first bytes in their ranges are a character's
 pub shape_begins : (s : List ℕ) (c : ℕ) → Shape s c → Begins s c
@@ -157,29 +150,25 @@ read_four a b c d v rest ha hb hc hd above below e = (
 pub read_none : (s : List ℕ) → ((c : ℕ) → Shape s c → ⊥) → Reads s (Err (Malformed 0))
 read_none s none = (refl, λ c b. none c (begins_shape s c b))
 
-abbrev code_point : Result (ℕ × ℕ) TextFault → ℕ
-code_point (Ok p) = p.0
-code_point (Err fault) = 0
-
-abbrev byte_count : Result (ℕ × ℕ) TextFault → ℕ
-byte_count (Ok p) = p.1
-byte_count (Err fault) = 0
-
 pub reads_exactly : (s : List ℕ) (r : Result (ℕ × ℕ) TextFault) → Reads s r → ReadsExactly s r
 reads_exactly s (Ok p) h = record {
   answers = λ c n. (
     λ e.
-        let same : p.0 ≡ c = ap code_point e in
-        let long : p.1 ≡ n = ap byte_count e in
+        let same : p.0 ≡ c = cc in
+        let long : p.1 ≡ n = cc in
         (subst (Begins s) same h.0, sym long ∙ h.1 ∙ ap (λ (k : ℕ). length (encode k)) same),
     λ b.
         let same : p.0 ≡ c = one_begins s p.0 c h.0 b.0 in
         let long : p.1 ≡ n = h.1 ∙ ap (λ (k : ℕ). length (encode k)) same ∙ sym b.1 in
         (λ i. Ok (same i, long i)),
   );
-  refuses = (λ e. let z : ◌≡◌ {A = ℕ} 0 1 = cc in absurd (omega arith), λ none. absurd (none p.0 h.0));
+  refuses = (λ e. cc, λ none. absurd (none p.0 h.0));
 }
 reads_exactly s (Err fault) h = record {
-  answers = λ c n. (λ e. let z : ◌≡◌ {A = ℕ} 0 1 = cc in absurd (omega arith), λ b. absurd (h.1 c b.0));
+  answers = λ c n. (λ e. cc, λ b. absurd (h.1 c b.0));
   refuses = (λ _. h.1, λ _. ap Err h.0);
 }
+
+-- what is read of a text, by another form of its bytes
+pub read_from : {s t : List ℕ} (r : Result (ℕ × ℕ) TextFault) → s ≡ t → Reads t r → record { reads : Reads s r; exact : ReadsExactly s r }
+read_from {s} r e h = let reads = subst (λ (l : List ℕ). Reads l r) (sym e) h in record { reads = reads; exact = reads_exactly s r reads }

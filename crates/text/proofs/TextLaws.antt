@@ -1,11 +1,12 @@
 -- Laws of texts: one reading, what the definitions find, and that an answer is pinned by its causes.
-use Rattle.std.proofs.Common.{◌≡◌, ℕ, zero, suc, ◌+◌, ◌*◌, ◌<◌, ◌≤◌, Bool, true, false, cond, ◌&&◌, ◌||◌, eqb, ltb, leb, List, [], ◌∷◌, ◌++◌, length, drop, Some, None, Ok, Err, sum_by, Option, Result, sym, refl, ap, ◌∙◌, subst, inl, inr, ⊎_elim, append_assoc, append-nil, arith, length-append, length-drop, MatchOption}
+use Rattle.std.proofs.Common.{◌≡◌, ℕ, zero, suc, ◌+◌, ◌-◌, ◌*◌, ◌<◌, ◌≤◌, Bool, true, false, cond, ◌&&◌, List, [], ◌∷◌, ◌++◌, length, drop, Some, None, Ok, Err, sum_by, Option, Result, sym, refl, ap, ◌∙◌, subst, ⊎_elim, append_assoc, append-nil, arith, length-append, length-drop, MatchOption}
 use Rattle.std.proofs.ByRecursion.{All-push}
 use Rattle.std.proofs.lemmas.List.Prefix.{front_rest}
-use Rattle.std.proofs.lemmas.List.{append_cancel_left, drop_all, flat_map_more, nil_from_length}
+use Rattle.std.proofs.lemmas.List.{append_cancel_left, flat_map_more, nil_from_length}
 use Rattle.std.proofs.lemmas.List.Sums.{sum_by_push}
-use Rattle.std.proofs.lemmas.Bool.{cond-true, cond-false, cases_lt, cases_eq, and_parts, and_from, eqb-true, eq-eqb, ne_eqb, lt-ltb, le-ltb, false≢true}
-use Rattle.std.proofs.lemmas.Bool.Decides.{nat_tests}
+use Rattle.std.proofs.lemmas.Bool.{cond_both, cases_lt, eqb-true, eqb-false, leb-true, le-leb, ltb-true, ltb-false, false≢true}
+use Rattle.std.proofs.lemmas.Bool.Decides.{Decides-and, Decides-or, Decides-eqb, Decides-ltb, Decides-like}
+use Rattle.std.specs.Bool.{Decides}
 use Rattle.std.specs.List.{AllByRecursion}
 use Rattle.text.specs.Characters.{Begins, NoneBegins}
 use Rattle.text.specs.Encoding.{Scalar, encode, encode_all, Spells, WellFormed}
@@ -52,49 +53,32 @@ spells_reading s cs h = record { scalars = h.0; split = sym h.1 ∙ sym (append-
 pub one_spelling : OneSpelling
 one_spelling s cs ds p q = (one_reading s cs [] ds [] (spells_reading s cs p) (spells_reading s ds q)).0
 
--- the tests of the definitions say what they are named for
-starts_with_from : (p rest : List ℕ) → starts_with p (p ++ rest) ≡ true
-starts_with_from [] rest = refl
-starts_with_from (b ∷ p) rest = and_from _ _ (eq-eqb b b refl) (starts_with_from p rest)
+-- the tests of the definitions decide what they are named for
+starts_decides : (p s : List ℕ) → Decides (starts_with p s) ((rest : List ℕ) × (s ≡ p ++ rest))
+starts_decides [] s = (λ _. (s, refl), λ _. refl)
+starts_decides (b ∷ p) [] = (λ h. cc, λ h. let e = h.1 in cc)
+starts_decides (b ∷ p) (x ∷ s) =
+    Decides-like _ (λ h. (h.1.0, (λ i. sym h.0 i ∷ h.1.1 i))) (λ h. let e = h.1 in (cc, (h.0, cc))) (Decides-and _ _ (Decides-eqb b x) (starts_decides p s))
 
-starts_with_rest : (p s : List ℕ) → starts_with p s ≡ true → s ≡ p ++ drop (length p) s
-starts_with_rest [] s h = refl
-starts_with_rest (b ∷ p) [] h = absurd (false≢true h)
-starts_with_rest (b ∷ p) (x ∷ s) h =
-    let t = and_parts (eqb b x) (starts_with p s) h in λ i. sym (eqb-true b x t.0) i ∷ starts_with_rest p s t.1 i
-
-is_scalar_from : (c : ℕ) → Scalar c → is_scalar c ≡ true
-is_scalar_from c h = grind (arith, nat_tests)
-
-is_scalar_true : (c : ℕ) → is_scalar c ≡ true → Scalar c
-is_scalar_true c h =
-    let t = and_parts (leb c 0x10FFFF) (ltb c 0xD800 || ltb 0xDFFF c) h in
-    let known : c ≤ 0x10FFFF = grind (arith, nat_tests) in
-    (known, ⊎_elim inl (λ g. ⊎_elim inr (λ g'. absurd (grind (arith, nat_tests))) (cases_lt 0xDFFF c)) (cases_lt c 0xD800))
+scalar_decides : (c : ℕ) → Decides (is_scalar c) (Scalar c)
+scalar_decides c = Decides-and _ _ (leb-true c 0x10FFFF, le-leb c 0x10FFFF) (Decides-or _ _ (Decides-ltb c 0xD800) (Decides-ltb 0xDFFF c))
 
 begins_test : List ℕ → ℕ → Bool
 begins_test s c = is_scalar c && starts_with (encode c) s
 
-test_from_begins : (s : List ℕ) (c : ℕ) → Begins s c → begins_test s c ≡ true
+begins_decides : (s : List ℕ) (c : ℕ) → Decides (begins_test s c) (Begins s c)
 unfolding begins_test
-test_from_begins s c b =
-    and_from _ _ (is_scalar_from c b.0) (subst (λ (l : List ℕ). starts_with (encode c) l ≡ true) (sym b.1.1) (starts_with_from (encode c) b.1.0))
-
-begins_from_test : (s : List ℕ) (c : ℕ) → begins_test s c ≡ true → Begins s c
-unfolding begins_test
-begins_from_test s c h =
-    let t = and_parts (is_scalar c) (starts_with (encode c) s) h in
-    (is_scalar_true c t.0, (drop (length (encode c)) s, starts_with_rest (encode c) s t.1))
+begins_decides s c = Decides-and _ _ (scalar_decides c) (starts_decides (encode c) s)
 
 -- what is found is a character that begins s, and where none is found none below n does
 abbrev Found : ℕ → List ℕ → Option ℕ → Type 0
 Found n s r = MatchOption r ((c : ℕ) → c < n → Begins s c → ⊥) (Begins s)
 
 found_more : (n : ℕ) (s : List ℕ) (r : Option ℕ) (b : Bool) → b ≡ begins_test s n → Found n s r → Found (suc n) s (cond b (Some n) r)
-found_more n s r true e h = begins_from_test s n (sym e)
+found_more n s r true e h = (begins_decides s n).0 (sym e)
 found_more n s (Some c) false e h = h
 found_more n s None false e h = λ c l b. ⊎_elim (λ below. h c below b)
-    (λ above. false≢true (e ∙ ap (begins_test s) (let same : n ≡ c = omega arith in same) ∙ test_from_begins s c b)) (cases_lt c n)
+    (λ above. false≢true (e ∙ ap (begins_test s) (let same : n ≡ c = omega arith in same) ∙ (begins_decides s c).1 b)) (cases_lt c n)
 
 first_below_lem : (n : ℕ) (s : List ℕ) → Found n s (first_below n s)
 unfolding first_below begins_test
@@ -174,11 +158,13 @@ module _ {T : Type 0} (Value : T → Type 0) (s : List ℕ) (one : (v u : T) →
 pub one_weight : (w : ℕ → ℕ) (s : List ℕ) (v u : ℕ) → Weighs w s v → Weighs w s u → v ≡ u
 one_weight w s v u (cs, p, e) (ds, q, e') = e ∙ ap (sum_by w) (one_spelling s cs ds p q) ∙ sym e'
 
+-- characters to the end of s spell it
+spelled : (s cs rest : List ℕ) → AllByRecursion Scalar cs → s ≡ encode_all cs ++ rest → length rest ≡ 0 → Spells cs s
+spelled s cs rest scalars split end = (scalars, sym (split ∙ ap (λ l. encode_all cs ++ l) (nil_from_length rest (omega arith)) ∙ append-nil (encode_all cs)))
+
 -- the defined answer has its cause
 all_read : (s cs rest : List ℕ) → Reading s cs rest → length (encode_all cs) ≡ length s → Spells cs s
-all_read s cs rest h e =
-    let none : rest ≡ [] = nil_from_length rest (omega (arith, ap length h.split, length-append (encode_all cs) rest)) in
-    (h.scalars, sym (h.split ∙ ap (λ (l : List ℕ). encode_all cs ++ l) none ∙ append-nil (encode_all cs)))
+all_read s cs rest h e = spelled s cs rest h.scalars h.split (omega (arith, ap length h.split, length-append (encode_all cs) rest))
 
 some_left : (s cs rest : List ℕ) → Reading s cs rest → (length (encode_all cs) ≡ length s → ⊥) → FailsAt s (length (encode_all cs))
 some_left s cs rest h short =
@@ -189,57 +175,56 @@ unfolding weighed
 weighed-verdict w s =
     let cs = characters s in
     let h = characters_reading s in
-    ⊎_elim (λ long. subst (Verdict (Weighs w s) s) (sym (cond-true _ _ _ (lt-ltb 240 (length s) long))) long)
-    (λ short. subst (Verdict (Weighs w s) s) (sym (cond-false _ _ _ (le-ltb 240 (length s) short)))
-    (⊎_elim (λ e. subst (Verdict (Weighs w s) s) (sym (cond-true _ _ _ (eq-eqb (length (encode_all cs)) (length s) e))) (short, (cs, all_read s cs h.0 h.1 e, refl)))
-    (λ ne. subst (Verdict (Weighs w s) s) (sym (cond-false _ _ _ (ne_eqb (length (encode_all cs)) (length s) ne))) (short, some_left s cs h.0 h.1 ne))
-    (cases_eq (length (encode_all cs)) (length s)))) (cases_lt 240 (length s))
+    cond_both _ (Err TooLong) _ (Verdict (Weighs w s) s) (ltb-true 240 (length s))
+    (λ e.
+    let short = ltb-false 240 (length s) e in
+    cond_both _ (Ok (sum_by w cs)) (Err (Malformed (length (encode_all cs)))) (Verdict (Weighs w s) s) (λ all. (short, (cs, all_read s cs h.0 h.1 (eqb-true _ _ all), refl)))
+    (λ some. (short, some_left s cs h.0 h.1 (eqb-false _ _ some))))
 
 pub verdict-weighed : (w : ℕ → ℕ) (s : List ℕ) (r : Result ℕ TextFault) → Verdict (Weighs w s) s r → r ≡ weighed w s
 verdict-weighed w s r h = one_verdict (Weighs w s) s (one_weight w s) (λ v p. (p.0, p.1)) r (weighed w s) h (weighed-verdict w s)
 
-pub weight_answered : (w : ℕ → ℕ) (s : List ℕ) (r : Result ℕ TextFault) → Verdict (Weighs w s) s r → Answered (Weighs w s) s r
-weight_answered w s = answered (Weighs w s) s (one_weight w s) (λ v p. (p.0, p.1))
+-- an answer that has its cause is the defined one, and tells its cause exactly
+pub record Told (w : ℕ → ℕ) (s : List ℕ) (r : Result ℕ TextFault) : Type 0 where
+  pub value : r ≡ weighed w s
+  pub exact : Answered (Weighs w s) s r
 
--- what the loop has read of s: the characters before the byte `at`, which weigh total
-pub record Sofar (w : ℕ → ℕ) (s : List ℕ) (at total : ℕ) : Type 0 where
+told : (w : ℕ → ℕ) (s : List ℕ) (r : Result ℕ TextFault) → Verdict (Weighs w s) s r → Told w s r
+told w s r h = record { value = verdict-weighed w s r h; exact = answered (Weighs w s) s (one_weight w s) (λ v p. (p.0, p.1)) r h }
+
+-- what the loop has read of s: the characters up to rest, which weigh total
+pub record Sofar (w : ℕ → ℕ) (s rest : List ℕ) (total : ℕ) : Type 0 where
   pub cs : List ℕ
   pub scalars : AllByRecursion Scalar cs
-  pub split : s ≡ encode_all cs ++ drop at s
-  pub long : at ≡ length (encode_all cs)
+  pub split : s ≡ encode_all cs ++ rest
+  pub long : length s ≡ length (encode_all cs) + length rest
   pub sum : total ≡ sum_by w cs
-  pub within : at ≤ length s
-  pub few : total ≤ 4 * at
+  pub few : total ≤ 4 * length (encode_all cs)
 
 -- one character more
-pub sofar_more : (w : ℕ → ℕ) (s : List ℕ) (at total c n : ℕ) → w c ≤ 4 → Sofar w s at total → Begins (drop at s) c → n ≡ length (encode c) → Sofar w s (at + n) (total + w c)
-sofar_more w s at total c n small h b e =
-    let t : List ℕ = b.1.0 in
+pub sofar_more : (w : ℕ → ℕ) (s rest : List ℕ) (total c n : ℕ) → w c ≤ 4 → Sofar w s rest total → Begins rest c → n ≡ length (encode c) → Sofar w s (drop n rest) (total + w c)
+sofar_more w s rest total c n small h b e =
     let some = encode_long c b.0 in
-    let room : length (drop at s) ≡ length (encode c) + length t = ap length b.1.1 ∙ length-append (encode c) t in
+    let left : rest ≡ encode c ++ drop n rest = b.1.1 ∙ ap (λ t. encode c ++ t) (sym (ap (λ k. drop k rest) e ∙ front_rest rest (encode c) b.1.0 b.1.1)) in
     let more : encode_all h.cs ++ encode c ≡ encode_all (h.cs ++ c ∷ []) = flat_map_more encode [] h.cs c in
-    let split : s ≡ encode_all (h.cs ++ c ∷ []) ++ t =
-    h.split ∙ ap (λ l. encode_all h.cs ++ l) b.1.1 ∙ sym (append_assoc (encode_all h.cs) (encode c) t) ∙ ap (λ l. l ++ t) more in
-    let long : at + n ≡ length (encode_all (h.cs ++ c ∷ [])) =
-    (λ i. h.long i + e i) ∙ sym (length-append (encode_all h.cs) (encode c)) ∙ ap length more in
-    let left : drop (at + n) s ≡ t = ap (λ k. drop k s) long ∙ front_rest s (encode_all (h.cs ++ c ∷ [])) t split in
+    let split : s ≡ encode_all (h.cs ++ c ∷ []) ++ drop n rest =
+    h.split ∙ ap (λ l. encode_all h.cs ++ l) left ∙ sym (append_assoc (encode_all h.cs) (encode c) (drop n rest)) ∙ ap (λ l. l ++ drop n rest) more in
+    let long : length (encode_all (h.cs ++ c ∷ [])) ≡ length (encode_all h.cs) + length (encode c) = sym (ap length more) ∙ length-append (encode_all h.cs) (encode c) in
     record {
       cs = h.cs ++ c ∷ [];
       scalars = All-push Scalar h.cs c h.scalars b.0;
-      split = split ∙ ap (λ l. encode_all (h.cs ++ c ∷ []) ++ l) (sym left);
-      long = long;
+      split = split;
+      long = ap length split ∙ length-append (encode_all (h.cs ++ c ∷ [])) (drop n rest);
       sum = ap (λ k. k + w c) h.sum ∙ sym (sum_by_push w h.cs c);
-      within = omega (arith, length-drop at s, h.within);
-      few = omega (arith, h.few);
+      few = omega arith;
     }
 
-pub sofar_all : (w : ℕ → ℕ) (s : List ℕ) (at total : ℕ) → length s ≤ 240 → Sofar w s at total → length s ≤ at → Verdict (Weighs w s) s (Ok total)
-sofar_all w s at total short h end =
-    (short, (h.cs, (h.scalars, sym (h.split ∙ ap (λ l. encode_all h.cs ++ l) (drop_all at s end) ∙ append-nil (encode_all h.cs))), h.sum))
+pub sofar_all : (w : ℕ → ℕ) (s rest : List ℕ) (total : ℕ) → length s ≤ 240 → Sofar w s rest total → length rest ≡ 0 → Told w s (Ok total)
+sofar_all w s rest total short h end = told w s (Ok total) (short, (h.cs, spelled s h.cs rest h.scalars h.split end, h.sum))
 
-pub sofar_fails : (w : ℕ → ℕ) (s : List ℕ) (at total : ℕ) → length s ≤ 240 → Sofar w s at total → at < length s → NoneBegins (drop at s) → Verdict (Weighs w s) s (Err (Malformed at))
-sofar_fails w s at total short h some none =
-    (short, (h.cs, drop at s, record { scalars = h.scalars; split = h.split; stops = none }, omega (arith, length-drop at s), h.long))
+pub sofar_fails : (w : ℕ → ℕ) (s rest : List ℕ) (at total : ℕ) → length s ≤ 240 → Sofar w s rest total → 0 < length rest → NoneBegins rest → at ≡ length s - length rest → Told w s (Err (Malformed at))
+sofar_fails w s rest at total short h some none e = told w s (Err (Malformed at))
+    (short, (h.cs, rest, record { scalars = h.scalars; split = h.split; stops = none }, some, omega arith))
 
 pub answered_verdict : {T : Type 0} (Value : T → Type 0) (s : List ℕ) (r : Result T TextFault) → Answered Value s r → Verdict Value s r
 answered_verdict Value s (Ok v) h = (h.accepts v).0 refl

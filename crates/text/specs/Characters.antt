@@ -1,5 +1,5 @@
 -- Reading one character: which scalar value's encoding a text begins with.
-use Rattle.std.specs.Prelude.{◌≡◌, ℕ, ◌↔◌, List, ◌++◌, length, Ok, Err, Result}
+use Rattle.std.specs.Prelude.{◌≡◌, ℕ, ◌+◌, ◌<◌, ◌⊎◌, ◌↔◌, List, ◌++◌, length, Ok, Err, Result}
 use Rattle.text.specs.Encoding.{Scalar, encode}
 use Rattle.text.specs.declared.faults.TextFault.{TextFault}
 use Rattle.text.specs.declared.faults.TextFault.TheVariants.{Malformed}
@@ -11,6 +11,11 @@ Begins s c = Scalar c × ((rest : List ℕ) × (s ≡ encode c ++ rest))
 -- no scalar value's encoding begins s
 abbrev pub NoneBegins : List ℕ → Type 0
 NoneBegins s = (c : ℕ) → Begins s c → ⊥
+
+-- the six bits that a byte carries behind its mark, and the bytes that lack the mark
+abbrev pub LaterBits : ℕ → Result ℕ TextFault → Type 0
+LaterBits byte (Ok bits) = (bits < 64) × (byte ≡ 0x80 + bits)
+LaterBits byte (Err fault) = (fault ≡ Malformed 0) × ((byte < 0x80) ⊎ (0xBF < byte))
 
 -- what reading answers, by its cases
 abbrev pub Reads : List ℕ → Result (ℕ × ℕ) TextFault → Type 0

@@ -3,6 +3,7 @@ pub mod Encoding
 pub mod Faults
 pub mod Rows
 pub mod Supplied
+pub mod Tables
 pub mod Texts
 pub mod Weights
 pub mod RowLaws

@@ -1,13 +1,16 @@
 -- Laws of row tables: one row more, rows that do not hold a code point, and the bound on the weight.
-use Rattle.std.specs.Prelude.{◌≡◌, ℕ, ◌+◌, ◌<◌, ◌≤◌, true, false, cond, ◌||◌, ◌⊎◌, List, [], ◌∷◌, ◌++◌, map, reverse, length, take, Ok, Err, nat_lt, slice_index_or, slice_set}
+use Rattle.std.specs.Prelude.{◌≡◌, ℕ, ◌+◌, ◌<◌, ◌≤◌, false, cond, ◌⊎◌, List, [], ◌∷◌, ◌++◌, map, reverse, length, take, Ok, Err, slice_index_or, slice_set}
 use mathlib.Core.List.{reverse_aux, append_assoc, append-nil}
-use Rattle.std.proofs.Common.{⊎_elim, sym, ap, ◌∙◌}
+use Rattle.std.proofs.Common.{sym, ap, ◌∙◌, arith}
+use Rattle.std.proofs.lemmas.Bool.Decides.{nat_tests}
 use Rattle.std.proofs.lemmas.List.{reverse-append, map_more, map_push, take_more_set, length-map, length-take-le}
-use Rattle.std.proofs.lemmas.Bool.{cond-true, cond-false, cond_both, le-leb, lt-leb, lt-ltb, le-ltb, or_left, or_right, or_from}
+use Rattle.std.proofs.lemmas.Bool.{cond-true, cond-false, cond_both, le-leb}
 use Rattle.std.specs.List.{AllByRecursion}
 use Rattle.text.specs.declared.rows.Row.{Row}
-use Rattle.text.specs.Rows.{Figures, figures, holds, first_holding, row_answer, LastDecides}
-use Rattle.text.specs.declared.row_table.RowFault.TheVariants.{TableFull, BadRange, TooHeavy}
+use Rattle.text.specs.declared.rows.RowTable.{RowTable}
+use Rattle.text.specs.Rows.{Figures, holds, first_holding, row_table, row_answer, LastDecides}
+use Rattle.text.specs.Tables.{figures, rows_of}
+use Rattle.text.specs.declared.rows.RowFault.TheVariants.{TableFull, BadRange, TooHeavy}
 
 -- with one row more, that row decides where it holds the code point
 pub latest_decides : (c : ℕ) (rows : List Figures) (row : Figures) → first_holding c (reverse (rows ++ row ∷ [])) ≡ cond (holds c row) row.weight (first_holding c (reverse rows))
@@ -46,6 +49,9 @@ never_heavier c [] seen h = h
 never_heavier c (row ∷ rows) seen h =
     never_heavier c rows (figures row ∷ seen) (cond_both (holds c (figures row)) row.weight (first_holding c seen) (λ w. w ≤ 4) (λ _. row.small) (λ _. h))
 
+pub at_most_four : (table : RowTable) (c : ℕ) → row_table (rows_of table) c ≤ 4
+at_most_four table c = let h = never_heavier c (take table.len table.rows) [] (omega arith) in grind (arith, nat_tests)
+
 -- a row is written behind the others
 pub rows_push : (rows : List Row) (n : ℕ) (row : Row) → n < length rows → map figures (take (n + 1) (slice_set rows n row)) ≡ map figures (take n rows) ++ figures row ∷ []
 rows_push rows n row h = ap (map figures) (take_more_set rows n row h) ∙ map_push figures (take n rows) row
@@ -56,20 +62,13 @@ rows_count rows n h = length-map (take n rows) figures ∙ length-take-le n rows
 -- what adding a row answers, by the first cause that holds
 module _ (n first last weight : ℕ) where
   pub answer_full : 32 ≤ n → Err TableFull ≡ row_answer n first last weight
-  answer_full full = sym (cond-true _ _ _ (le-leb 32 n full))
+  answer_full full = grind (arith, nat_tests)
 
   pub answer_range : n < 32 → (last < first) ⊎ (1114111 < last) → Err (BadRange first last) ≡ row_answer n first last weight
-  answer_range room bad =
-      let refused : (nat_lt last first || nat_lt 1114111 last) ≡ true =
-      ⊎_elim (λ h. or_left _ _ (lt-ltb last first h)) (λ h. or_right _ _ (lt-ltb 1114111 last h)) bad in
-      sym (cond-false _ _ _ (lt-leb 32 n room) ∙ cond-true _ _ _ refused)
-
-  past_range : n < 32 → first ≤ last → last ≤ 1114111 → cond (nat_lt 4 weight) (Err (TooHeavy weight)) (Ok tt) ≡ row_answer n first last weight
-  past_range room ordered known =
-      sym (cond-false _ _ _ (lt-leb 32 n room) ∙ cond-false _ _ _ (or_from _ _ (le-ltb last first ordered) (le-ltb 1114111 last known)))
+  answer_range room bad = grind (arith, nat_tests)
 
   pub answer_heavy : n < 32 → first ≤ last → last ≤ 1114111 → 4 < weight → Err (TooHeavy weight) ≡ row_answer n first last weight
-  answer_heavy room ordered known heavy = sym (cond-true _ _ _ (lt-ltb 4 weight heavy)) ∙ past_range room ordered known
+  answer_heavy room ordered known heavy = grind (arith, nat_tests)
 
   pub answer-added : n < 32 → first ≤ last → last ≤ 1114111 → weight ≤ 4 → Ok tt ≡ row_answer n first last weight
-  answer-added room ordered known small = sym (cond-false _ _ _ (le-ltb 4 weight small)) ∙ past_range room ordered known
+  answer-added room ordered known small = grind (arith, nat_tests)

@@ -1,10 +1,8 @@
 -- What a row table weighs, and what adding a row answers and leaves.
-use Rattle.std.specs.Prelude.{◌≡◌, ℕ, ◌≤◌, Bool, true, false, cond, ◌&&◌, ◌||◌, List, [], ◌∷◌, ◌++◌, map, reverse, take, Ok, Err, Result, nat_le, nat_lt}
+use Rattle.std.specs.Prelude.{◌≡◌, ℕ, ◌<◌, ◌≤◌, Bool, true, false, cond, ◌&&◌, ◌||◌, ◌⊎◌, List, [], ◌∷◌, ◌++◌, reverse, Ok, Err, Result, nat_le, nat_lt}
 use Rattle.std.specs.List.{AllByRecursion}
-use Rattle.text.specs.declared.rows.Row.{Row}
-use Rattle.text.specs.declared.rows.RowTable.{RowTable}
-use Rattle.text.specs.declared.row_table.RowFault.{RowFault}
-use Rattle.text.specs.declared.row_table.RowFault.TheVariants.{TableFull, BadRange, TooHeavy}
+use Rattle.text.specs.declared.rows.RowFault.{RowFault}
+use Rattle.text.specs.declared.rows.RowFault.TheVariants.{TableFull, BadRange, TooHeavy}
 use Rattle.text.specs.Weights.{code_point_weight}
 
 -- a row by its three figures
@@ -12,14 +10,6 @@ pub record Figures : Type 0 where
   pub first : ℕ
   pub last : ℕ
   pub weight : ℕ
-
--- the figures of a row as the table holds it
-abbrev pub figures : Row → Figures
-figures row = record { first = row.first; last = row.last; weight = row.weight }
-
--- the rows of a table, in the order in which they were added
-abbrev pub rows_of : RowTable → List Figures
-rows_of table = map figures (take table.len table.rows)
 
 -- whether c lies from the row's first code point to its last
 abbrev pub holds : ℕ → Figures → Bool
@@ -40,6 +30,12 @@ row_answer n first last weight =
     cond (nat_le 32 n) (Err TableFull)
     (cond (nat_lt last first || nat_lt 1114111 last) (Err (BadRange first last))
     (cond (nat_lt 4 weight) (Err (TooHeavy weight)) (Ok tt)))
+
+-- why there is no row of three figures: the first cause that holds, in this order
+abbrev pub RowRefused : ℕ → ℕ → ℕ → RowFault → Type 0
+RowRefused first last weight TableFull = ⊥
+RowRefused first last weight (BadRange a b) = (a ≡ first) × (b ≡ last) × ((last < first) ⊎ (1114111 < last))
+RowRefused first last weight (TooHeavy w) = (w ≡ weight) × (first ≤ last) × (last ≤ 1114111) × (4 < weight)
 
 -- the rows after it: one more at the end, or as they were
 abbrev pub rows_after : {T E : Type 0} → Result T E → List Figures → ℕ → ℕ → ℕ → List Figures

@@ -1,6 +1,7 @@
 -- What a rule that was chosen among the supplied ones weighs: what the chosen one weighs.
 use Rattle.std.specs.Prelude.{ℕ}
-use Rattle.text.specs.Rows.{rows_of, row_table}
+use Rattle.text.specs.Rows.{row_table}
+use Rattle.text.specs.Tables.{rows_of}
 use Rattle.text.specs.Weights.{blank_counting, blank_free}
 use Rattle.text.specs.declared.supplied.SuppliedRule.{SuppliedRule}
 use Rattle.text.specs.declared.supplied.SuppliedRule.TheVariants.{BlankCounting, BlankFree, RowTable}

@@ -14,7 +14,7 @@ const NO_BREAK_SPACE: u32 = 0xA0;
 const TAB: u32 = 0x09;
 
 /// Every code point weighs 1, blanks included.
-#[derive(Clone, Copy)]
+#[derive(Clone, Copy, Debug, Default, PartialEq, Eq)]
 pub struct BlankCounting;
 
 impl CountingRule for BlankCounting {
@@ -25,12 +25,12 @@ impl CountingRule for BlankCounting {
     ghost outside = { Prim.search rules };
 
     fn weight_of(&self, code_point: u32) -> u8 {
-        if code_point <= LAST_CODE_POINT { 1 } else { 0 }
+        u8::from(code_point <= LAST_CODE_POINT)
     }
 }
 
 /// The blanks U+0020, U+00A0 and U+0009 weigh 0, and every other code point weighs 1.
-#[derive(Clone, Copy)]
+#[derive(Clone, Copy, Debug, Default, PartialEq, Eq)]
 pub struct BlankFree;
 
 impl CountingRule for BlankFree {

@@ -7,7 +7,6 @@
 mod blanks;
 mod characters;
 mod faults;
-mod row_table;
 mod rows;
 mod rules;
 mod supplied;
@@ -17,9 +16,8 @@ mod texts;
 
 pub use blanks::{BlankCounting, BlankFree};
 pub use characters::{library_agrees, one_character_begins, read_char};
-pub use faults::TextFault;
-pub use row_table::{RowFault, last_row_decides};
-pub use rows::{MOST_ROWS, RowTable};
+pub use faults::{Refusal, TextFault};
+pub use rows::{MOST_ROWS, RowFault, RowTable, last_row_decides};
 pub use rules::{CountingRule, LAST_CODE_POINT};
 pub use supplied::SuppliedRule;
 pub use texts::{MOST_BYTES, check_text, one_reading, weigh_text};

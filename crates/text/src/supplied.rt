@@ -1,17 +1,17 @@
 //! One of the supplied rules, chosen at run time.
 ghost use Rattle.text.specs.Supplied.{supplied_weight};
-ghost use Rattle.std.specs.Prelude.{[], take};
 ghost use Rattle.std.proofs.Common.{arith, rules};
 ghost use Rattle.std.proofs.lemmas.Bool.Decides.{nat_tests};
 ghost use Rattle.text.specs.declared.supplied.SuppliedRule.TheVariants.{BlankCounting, BlankFree, RowTable};
-ghost use Rattle.text.specs.RowLaws.{never_heavier};
+ghost use Rattle.text.specs.RowLaws.{at_most_four};
 
 use crate::blanks::{BlankCounting, BlankFree};
 use crate::rows::RowTable;
 use crate::rules::CountingRule;
 
 /// One of the three supplied rules.
-#[derive(Clone, Copy)]
+// An enum, which lies in fixed memory, and no `dyn` rule, which would have to be boxed to be kept.
+#[derive(Clone, Copy, Debug, PartialEq, Eq)]
 pub enum SuppliedRule {
     BlankCounting(BlankCounting),
     BlankFree(BlankFree),
@@ -19,12 +19,12 @@ pub enum SuppliedRule {
 }
 
 impl CountingRule for SuppliedRule {
-    ghost weight = { λ rule c. supplied_weight rule c };
+    ghost weight = { supplied_weight };
 
     ghost small = { elim [
-      | BlankCounting rule ↦ λ c. Prim.grind (arith, nat_tests)
-      | BlankFree rule ↦ λ c. Prim.grind (arith, nat_tests)
-      | RowTable table ↦ λ c. let h = never_heavier c (take table.len table.rows) [] (omega arith) in Prim.grind (arith, nat_tests)
+      | BlankCounting rule ↦ λ c. Prim.search rules
+      | BlankFree rule ↦ λ c. Prim.search rules
+      | RowTable table ↦ at_most_four table
     ] };
 
     ghost outside = { Prim.search rules };

@@ -24,14 +24,15 @@ pub fn weigh_text<R: CountingRule>(rule: &R, text: &[u8]) -> Result<u64, TextFau
     if text.len() > MOST_BYTES {
         return Err(TextFault::TooLong);
     }
-    let mut at = 0;
+    let mut rest = text;
     let mut total: u64 = 0;
-    while at < text.len() {
-        let Ok((code_point, bytes)) = read_char(&text[at..]) else {
+    while !rest.is_empty() {
+        let Ok((code_point, bytes)) = read_char(rest) else {
+            let at = text.len() - rest.len();
             return Err(TextFault::Malformed { at });
         };
         total += u64::from(rule.weight_of(code_point));
-        at += bytes;
+        rest = &rest[bytes..];
     }
     Ok(total)
 }
@@ -41,16 +42,12 @@ pub fn check_text(text: &[u8]) -> Result<(), TextFault>
     ensures { Answered (λ _. WellFormed text.now) text.now result }
 {
     // Weighing reads the text to its end, under whichever rule.
-    match weigh_text(&BlankCounting, text) {
-        Ok(_) => Ok(()),
-        Err(fault) => Err(fault),
-    }
+    weigh_text(&BlankCounting, text)?;
+    Ok(())
 }
 
 /// A text is read in one way only, well formed or not.
-pub fn one_reading() -> bool
+pub fn one_reading()
     ensures reading { OneReading }
     ensures spelling { OneSpelling }
-{
-    true
-}
+{}

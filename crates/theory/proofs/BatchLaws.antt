@@ -1,7 +1,7 @@
 -- Several buckets pushed into a level at once.
-use Rattle.std.proofs.Common.{◌≡◌, ℕ, zero, suc, ◌+◌, ◌-◌, ◌*◌, ◌/◌, ◌%◌, ◌<◌, ◌≤◌, min, leb, ◌⊎◌, List, [], ◌∷◌, ◌++◌, length, get_or, take, drop, replicate, sym, refl, ap, ◌∙◌, subst, inl, inr, append_assoc, arith}
-use Rattle.std.proofs.lemmas.List.{drop_all, drop-drop, get_or-take, length-append, length-drop, length-replicate, length-take-le, take_all, take-take}
-use Rattle.std.proofs.lemmas.Bool.{cases_lt, cond-false, cond-true, le-leb, lt-leb}
+use Rattle.std.proofs.Common.{◌≡◌, ℕ, zero, suc, ◌+◌, ◌-◌, ◌*◌, ◌/◌, ◌%◌, ◌<◌, ◌≤◌, min, ◌⊎◌, List, [], ◌∷◌, ◌++◌, length, get_or, take, drop, replicate, refl, ap, ◌∙◌, inl, inr, append_assoc, arith}
+use Rattle.std.proofs.lemmas.List.{length-take, places, same_lists, drop_all, drop-drop, get_or-take, length-append, length-drop, length-replicate, length-take-le, take_all, take-take}
+use Rattle.std.proofs.lemmas.Bool.{cases_lt, le-leb, lt-leb}
 use Rattle.theory.specs.Levels.{newer, push, push_all, stay, staying, up_olds, ups}
 
 -- the oldest pair of a level is the first to come out of the pairs that went up before
@@ -22,21 +22,15 @@ full l n h = (omega arith, omega arith)
 
 step_stay : (l y k : ℕ) (zs : List ℕ) (levels : List (List ℕ)) → k ≤ length zs → k ≤ l
     → push l y (take k zs ∷ levels) ≡ (y ∷ take k zs) ∷ levels
-step_stay l y k zs levels h g =
-    cond-true (leb (length (take k zs)) l) ((y ∷ take k zs) ∷ levels) (take l (y ∷ take k zs) ∷ push l (get_or (y ∷ take k zs) l 0) levels)
-    (le-leb (length (take k zs)) l (omega (arith, length-take-le k zs h)))
+step_stay l y k zs levels h g = rw (le-leb (length (take k zs)) l (omega (arith, length-take-le k zs h))) refl
 
 step_full : (l y : ℕ) (zs : List ℕ) (rest : List (List ℕ)) → suc l ≤ length zs
     → push l y (take (suc l) zs ∷ push_all l (newer (drop (suc l) zs)) rest) ≡ take l (y ∷ zs) ∷ push_all l (newer (drop l (y ∷ zs))) rest
 step_full l y zs rest h =
-    let up = push_all l (newer (drop (suc l) zs)) rest in
     let e₁ : take l (y ∷ take (suc l) zs) ≡ take l (y ∷ zs) = take-take l (suc (suc l)) (y ∷ zs) (omega arith) in
     let e₂ : get_or (y ∷ take (suc l) zs) l 0 ≡ get_or (y ∷ zs) l 0 = get_or-take (suc (suc l)) (y ∷ zs) l 0 (omega arith) in
     let e₃ : newer (drop l (y ∷ zs)) ≡ get_or (y ∷ zs) l 0 ∷ newer (drop (suc l) zs) = newer_more (y ∷ zs) l (omega arith) in
-    cond-false (leb (length (take (suc l) zs)) l) ((y ∷ take (suc l) zs) ∷ up)
-    (take l (y ∷ take (suc l) zs) ∷ push l (get_or (y ∷ take (suc l) zs) l 0) up)
-    (lt-leb (length (take (suc l) zs)) l (omega (arith, length-take-le (suc l) zs h)))
-    ∙ rw (e₃, e₁, e₂) refl
+    rw (lt-leb (length (take (suc l) zs)) l (omega (arith, length-take-le (suc l) zs h)), e₃, e₁, e₂) refl
 
 step : (l y : ℕ) (zs : List ℕ) (rest : List (List ℕ))
     → (l < staying l (length zs)) ⊎ (staying l (length zs) ≤ l)
@@ -60,23 +54,15 @@ level_law_lem l (y ∷ new) ss rest h =
     ap (push l y) (level_law_lem l new ss rest h) ∙ step l y (new ++ ss) rest (cases_lt l (staying l (length (new ++ ss))))
 
 pub new_level : (l s : ℕ) (ss : List ℕ) → push_all l (s ∷ ss) [] ≡ push_all l (s ∷ ss) ([] ∷ [])
-new_level l s [] = sym (cond-true (leb 0 l) ((s ∷ []) ∷ []) (take l (s ∷ []) ∷ push l (get_or (s ∷ []) l 0) []) (le-leb 0 l (omega arith)))
+new_level l s [] = rw (le-leb 0 l (omega arith)) refl
 new_level l s (r ∷ ss) = ap (push l s) (new_level l r ss)
 
 -- copies of one stamp, and then older ones
 take_copies : (r m t : ℕ) (xs : List ℕ) → take r (replicate m t ++ xs) ≡ replicate (min r m) t ++ take (r - m) xs
-take_copies zero m t xs = let e : min 0 m ≡ 0 = omega arith in let d : 0 - m ≡ 0 = omega arith in rw (e, d) refl
-take_copies (suc r) zero t xs = let e : min (suc r) 0 ≡ 0 = omega arith in let d : suc r - 0 ≡ suc r = omega arith in rw (e, d) refl
-take_copies (suc r) (suc m) t xs =
-    let e : min (suc r) (suc m) ≡ suc (min r m) = omega arith in let d : suc r - suc m ≡ r - m = omega arith in
-    rw (e, d) (ap {B = List ℕ} (λ ys. t ∷ ys) (take_copies r m t xs))
+take_copies r m t xs = same_lists _ _ (simp (length-take, length-append, length-replicate) (omega arith)) (λ k d lt. grind (arith, places))
 
 drop_copies : (r m t : ℕ) (xs : List ℕ) → drop r (replicate m t ++ xs) ≡ replicate (m - r) t ++ drop (r - m) xs
-drop_copies zero m t xs = let e : m - 0 ≡ m = omega arith in let d : 0 - m ≡ 0 = omega arith in rw (e, d) refl
-drop_copies (suc r) zero t xs = let e : 0 - suc r ≡ 0 = omega arith in let d : suc r - 0 ≡ suc r = omega arith in rw (e, d) refl
-drop_copies (suc r) (suc m) t xs =
-    let e : suc m - suc r ≡ m - r = omega arith in let d : suc r - suc m ≡ r - m = omega arith in
-    rw (e, d) (drop_copies r m t xs)
+drop_copies r m t xs = same_lists _ _ (simp (length-drop, length-append, length-replicate) (omega arith)) (λ k d lt. grind (arith, places))
 
 newer_copies : (j t : ℕ) (xs : List ℕ) → newer (replicate j t ++ xs) ≡ replicate ((j + 1) / 2) t ++ newer (drop (j % 2) xs)
 newer_copies zero t xs = refl
@@ -85,9 +71,6 @@ newer_copies (suc zero) t (x ∷ xs) = refl
 newer_copies (suc (suc j)) t xs =
     let e : (suc (suc j) + 1) / 2 ≡ suc ((j + 1) / 2) = omega arith in let d : suc (suc j) % 2 ≡ j % 2 = omega arith in
     rw (e, d) (ap {B = List ℕ} (λ ys. t ∷ ys) (newer_copies j t xs))
-
-drop_twice : (i j : ℕ) (xs : List ℕ) → drop j (drop i xs) ≡ drop (i + j) xs
-drop_twice i j xs = Rattle.std.proofs.lemmas.List.drop-drop j i xs
 
 pub length_copies : (m t : ℕ) (xs : List ℕ) → length (replicate m t ++ xs) ≡ m + length xs
 length_copies m t xs = omega (arith, length-append (replicate m t) xs, length-replicate m t)
@@ -105,7 +88,7 @@ batch_level l m t olds ss rest h =
       take_copies r m t (olds ++ ss),
       drop_copies r m t (olds ++ ss),
       newer_copies (m - r) t (drop (r - m) (olds ++ ss)),
-      drop_twice (r - m) ((m - r) % 2) (olds ++ ss),
+      drop-drop ((m - r) % 2) (r - m) (olds ++ ss),
     ) refl
 
 pub length-newer : (xs : List ℕ) → length (newer xs) ≤ (length xs + 1) / 2
@@ -119,7 +102,7 @@ share r m o k u e h = omega arith
 -- at most half of what is above l goes up
 pub up_count : (l m : ℕ) (olds : List ℕ) → ups l m olds + length (up_olds l m olds) ≤ (m + length olds - l) / 2
 up_count l m olds = halves l m (length olds) (length (up_olds l m olds))
-    (subst (λ (x : ℕ). length (up_olds l m olds) ≤ (x + 1) / 2) (length-drop cut olds) (length-newer (drop cut olds)))
+    (rw length-drop at (length-newer (drop cut olds)))
   where
     cut : ℕ
     cut = (staying l (m + length olds) - m) + (m - staying l (m + length olds)) % 2

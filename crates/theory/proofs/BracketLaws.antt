@@ -1,7 +1,9 @@
 -- Low and high bracket the truth.
-use Rattle.std.proofs.Common.{◌≡◌, ℕ, zero, suc, ◌+◌, ◌-◌, ◌*◌, ◌^◌, ◌<◌, ◌≤◌, cond, ltb, List, [], ◌∷◌, length, get_or, refl, ◌∙◌, mul-le-mul_right, arith, pow_pos}
+use Rattle.std.proofs.Common.{◌≡◌, ℕ, zero, suc, ◌+◌, ◌-◌, ◌*◌, ◌^◌, ◌<◌, ◌≤◌, ltb, List, [], ◌∷◌, length, get_or, refl, mul-le-mul_right, arith, pow_pos}
 use native.Mathlib.Nat.{two-pow-succ}
-use Rattle.std.proofs.lemmas.Bool.{cond_both, cond-false, cond-true, le-ltb, lt-ltb, ltb-false, ltb-true}
+use Rattle.std.proofs.lemmas.Bool.{cond_both, le-ltb, ltb-false, ltb-true}
+use Rattle.std.proofs.ByRecursion.{All-get_or}
+use Rattle.std.proofs.lemmas.Bool.Decides.{nat_tests}
 use Rattle.theory.proofs.Views.{Below, Gone, Stands}
 use Rattle.theory.specs.Arrivals.{Falling, truth}
 use Rattle.theory.specs.Buckets.{high, low, oldest, size, total, within}
@@ -9,9 +11,7 @@ use Rattle.theory.specs.Levels.{Canonical, flat, row}
 use Rattle.theory.specs.declared.entries.Entry.{Entry}
 
 pub below_at : (s : ℕ) (us : List ℕ) → Below s us → (k : ℕ) → k < length us → get_or us k 0 ≤ s
-below_at s [] b k lt = absurd (omega arith)
-below_at s (u ∷ us) b zero lt = b.0
-below_at s (u ∷ us) b (suc k) lt = below_at s us b.1 k (omega arith)
+below_at s us b k lt = All-get_or (λ u. u ≤ s) us k 0 lt b
 
 pub falls_at : (us : List ℕ) → Falling us → (i k : ℕ) → i ≤ k → k < length us → get_or us k 0 ≤ get_or us i 0
 falls_at [] f i k le lt = absurd (omega arith)
@@ -21,31 +21,23 @@ falls_at (u ∷ us) f (suc i) zero le lt = absurd (omega arith)
 falls_at (u ∷ us) f (suc i) (suc k) le lt = falls_at us f.1 i k (omega arith) (omega arith)
 
 module _ (W a : ℕ) where
-  is_in : (u : ℕ) → a < u + W → ◌≡◌ {A = ℕ} (cond (ltb a (u + W)) 1 0) 1
-  is_in u h = cond-true (ltb a (u + W)) 1 0 (lt-ltb a (u + W) h)
-
-  is_out : (u : ℕ) → u + W ≤ a → ◌≡◌ {A = ℕ} (cond (ltb a (u + W)) 1 0) 0
-  is_out u h = cond-false (ltb a (u + W)) 1 0 (le-ltb a (u + W) h)
-
-  at_most_one : (u : ℕ) → cond (ltb a (u + W)) 1 0 ≤ 1
-  at_most_one u = cond_both (ltb a (u + W)) 1 0 (λ x. x ≤ 1) (λ _. omega arith) (λ _. omega arith)
-
   pub at_least : (us : List ℕ) → Falling us → (n : ℕ) → n < length us → a < get_or us n 0 + W → n < truth W a us
   at_least [] f n lt h = absurd (omega arith)
-  at_least (u ∷ us) f zero lt h = omega (arith, is_in u h)
+  at_least (u ∷ us) f zero lt h = let live : a < u + W = h in grind (arith, nat_tests)
   at_least (u ∷ us) f (suc n) lt h =
       let ih : n < truth W a us = at_least us f.1 n (omega arith) h in
-      omega (arith, is_in u (omega (arith, below_at u us f.0 n (omega arith))))
+      let live : a < u + W = omega (arith, below_at u us f.0 n (omega arith)) in
+      grind (arith, nat_tests)
 
   pub at_most : (us : List ℕ) → Falling us → (n : ℕ) → (n < length us → get_or us n 0 + W ≤ a) → truth W a us ≤ n
   at_most [] f n h = omega arith
   at_most (u ∷ us) f zero h =
-      let k : u + W ≤ a = h (omega arith) in
+      let out : u + W ≤ a = h (omega arith) in
       let ih : truth W a us ≤ 0 = at_most us f.1 0 (λ lt. omega (arith, below_at u us f.0 0 lt)) in
-      omega (arith, is_out u k)
+      grind (arith, nat_tests)
   at_most (u ∷ us) f (suc n) h =
       let ih : truth W a us ≤ n = at_most us f.1 n (λ lt. h (omega arith)) in
-      omega (arith, at_most_one u)
+      grind (arith, nat_tests)
 
 -- a bucket of size c at place p has l × (c − 1) arrivals in front of it
 abbrev pub Wide : ℕ → ℕ → List Entry → Type 0
@@ -78,9 +70,8 @@ module _ (N t : ℕ) (us : List ℕ) (falls : Falling us) (W a : ℕ) where
   pub none_within : (p : ℕ) (bs : List Entry) → Gone W a us p → Stands N t us p bs → within W a bs ≡ []
   none_within p [] g h = refl
   none_within p (b ∷ bs) g h =
-      let d : b.stamp + W ≤ a = rw h.1 at (g p (omega arith) (omega (arith, h.0, pow_pos b.exponent))) in
-      cond-false (ltb a (b.stamp + W)) (b ∷ within W a bs) (within W a bs) (le-ltb a (b.stamp + W) d)
-      ∙ none_within (p + size b) bs (λ k le lt. g k (omega arith) lt) h.2
+      let out : b.stamp + W ≤ a = omega (arith, h.1, g p (omega arith) (omega (arith, h.0, pow_pos b.exponent))) in
+      rw (le-ltb a (b.stamp + W) out) (none_within (p + size b) bs (λ k le lt. g k (omega arith) lt) h.2)
 
   pub bracket : (l : ℕ) → W ≤ N → t ≤ a → (p : ℕ) (bs : List Entry) → Wide l p bs → Stands N t us p bs
       → Bracket l (truth W a us) p (within W a bs)

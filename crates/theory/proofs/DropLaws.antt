@@ -1,7 +1,9 @@
 -- Dropping, by levels and by the test of each bucket.
-use Rattle.std.proofs.Common.{◌≡◌, ℕ, suc, ◌+◌, ◌<◌, ◌≤◌, ltb, leb, List, [], ◌∷◌, length, get_or, sym, refl, ap, ◌∙◌, arith}
-use Rattle.std.proofs.lemmas.Bool.{cond_both, cond-false, cond-true, leb-false, leb-true, ltb-false}
+use Rattle.std.proofs.Common.{◌≡◌, ℕ, suc, ◌+◌, ◌<◌, ◌≤◌, ltb, leb, List, [], ◌∷◌, length, get_or, refl, arith}
+use Rattle.std.proofs.lemmas.Bool.{cond_both, ltb-false}
+use Rattle.std.proofs.lemmas.Bool.Decides.{nat_tests}
 use Rattle.theory.proofs.BracketLaws.{falls_at, none_within}
+use Rattle.theory.proofs.PushLaws.{filled_from}
 use Rattle.theory.proofs.Views.{Gone, Stands, cap, fresh, kept, trim}
 use Rattle.theory.specs.Arrivals.{Falling}
 use Rattle.theory.specs.Buckets.{size, within}
@@ -11,9 +13,7 @@ use Rattle.theory.specs.declared.entries.Entry.{Entry}
 module _ (N t : ℕ) where
   fresh_le : (ss : List ℕ) → length (fresh N t ss) ≤ length ss
   fresh_le [] = omega arith
-  fresh_le (s ∷ ss) =
-      cond_both (ltb t (s + N)) (s ∷ fresh N t ss) [] (λ r. length r ≤ suc (length ss))
-      (λ _. omega (arith, fresh_le ss)) (λ _. omega arith)
+  fresh_le (s ∷ ss) = grind (arith, nat_tests, fresh_le ss)
 
   cap-canon : (l : ℕ) (ss : List ℕ) → length ss ≤ l + 1 → Canonical l (cap ss)
   cap-canon l [] h = tt
@@ -21,11 +21,7 @@ module _ (N t : ℕ) where
 
   filled_trim : (l : ℕ) (ss : List ℕ) (rest : List (List ℕ)) → Filled l ss rest → Filled l ss (trim N t rest)
   filled_trim l ss [] h = tt
-  filled_trim l ss (next ∷ rest) h = filled_from (trim N t (next ∷ rest)) h
-    where
-      filled_from : (r : List (List ℕ)) → l ≤ length ss → Filled l ss r
-      filled_from [] k = tt
-      filled_from (x ∷ r) k = k
+  filled_trim l ss (next ∷ rest) h = filled_from l ss (trim N t (next ∷ rest)) h
 
   pub trim_canon : (l : ℕ) (levels : List (List ℕ)) → Canonical l levels → Canonical l (trim N t levels)
   trim_canon l [] c = tt
@@ -35,22 +31,12 @@ module _ (N t : ℕ) where
       (λ _. cap-canon l (fresh N t ss) (omega (arith, fresh_le ss)))
 
   row_all : (e : ℕ) (ss : List ℕ) (older : List Entry) → length ss ≤ length (fresh N t ss) → kept N t (row e ss older) ≡ row e ss (kept N t older)
-  row_all e [] older = λ h. refl
-  row_all e (s ∷ ss) older =
-      cond_both (ltb t (s + N)) (s ∷ fresh N t ss) []
-      (λ r. suc (length ss) ≤ length r → kept N t (row e (s ∷ ss) older) ≡ row e (s ∷ ss) (kept N t older))
-      (λ q h. cond-true (ltb t (s + N)) (record { stamp = s; exponent = e } ∷ kept N t (row e ss older)) [] q
-      ∙ ap {B = List Entry} (λ r. record { stamp = s; exponent = e } ∷ r) (row_all e ss older (omega arith)))
-      (λ q h. absurd (omega arith))
+  row_all e [] older h = refl
+  row_all e (s ∷ ss) older h = grind (arith, nat_tests, row_all e ss older)
 
   row-some : (e : ℕ) (ss : List ℕ) (older : List Entry) → length (fresh N t ss) < length ss → kept N t (row e ss older) ≡ row e (fresh N t ss) []
-  row-some e [] older = λ h. absurd (omega arith)
-  row-some e (s ∷ ss) older =
-      cond_both (ltb t (s + N)) (s ∷ fresh N t ss) []
-      (λ r. length r < suc (length ss) → kept N t (row e (s ∷ ss) older) ≡ row e r [])
-      (λ q h. cond-true (ltb t (s + N)) (record { stamp = s; exponent = e } ∷ kept N t (row e ss older)) [] q
-      ∙ ap {B = List Entry} (λ r. record { stamp = s; exponent = e } ∷ r) (row-some e ss older (omega arith)))
-      (λ q h. cond-false (ltb t (s + N)) (record { stamp = s; exponent = e } ∷ kept N t (row e ss older)) [] q)
+  row-some e [] older h = absurd (omega arith)
+  row-some e (s ∷ ss) older h = grind (arith, nat_tests, row-some e ss older)
 
   flat-cap : (e : ℕ) (ss : List ℕ) → flat e (cap ss) ≡ row e ss []
   flat-cap e [] = refl
@@ -59,10 +45,7 @@ module _ (N t : ℕ) where
   pub flat_trim : (e : ℕ) (levels : List (List ℕ)) → flat e (trim N t levels) ≡ kept N t (flat e levels)
   flat_trim e [] = refl
   flat_trim e (ss ∷ rest) =
-      cond_both (leb (length ss) (length (fresh N t ss))) (ss ∷ trim N t rest) (cap (fresh N t ss))
-      (λ ls. flat e ls ≡ kept N t (flat e (ss ∷ rest)))
-      (λ q. ap (row e ss) (flat_trim (suc e) rest) ∙ sym (row_all e ss (flat (suc e) rest) (leb-true _ _ q)))
-      (λ q. flat-cap e (fresh N t ss) ∙ sym (row-some e ss (flat (suc e) rest) (leb-false _ _ q)))
+      grind (arith, nat_tests, flat_trim (suc e) rest, row_all e ss (flat (suc e) rest), row-some e ss (flat (suc e) rest), flat-cap e (fresh N t ss))
 
 module _ (N t t' : ℕ) (us : List ℕ) (falls : Falling us) where
   gone_from : (p : ℕ) → get_or us p 0 + N ≤ t' → Gone N t' us p
@@ -78,9 +61,8 @@ module _ (N t t' : ℕ) (us : List ℕ) (falls : Falling us) where
   pub kept_within : (p : ℕ) (bs : List Entry) → Stands N t us p bs → kept N t' bs ≡ within N t' bs
   kept_within p [] h = refl
   kept_within p (b ∷ bs) h =
-      cond_both (ltb t' (b.stamp + N)) (b ∷ within N t' bs) (within N t' bs) (λ r. kept N t' (b ∷ bs) ≡ r)
-      (λ q. cond-true (ltb t' (b.stamp + N)) (b ∷ kept N t' bs) [] q
-      ∙ ap {B = List Entry} (λ r. b ∷ r) (kept_within (p + size b) bs h.2))
-      (λ q. cond-false (ltb t' (b.stamp + N)) (b ∷ kept N t' bs) [] q
-      ∙ sym (none_within N t us falls N t' (p + size b) bs
-      (λ k le lt. gone_from p (rw h.1 (ltb-false t' (b.stamp + N) q)) k (omega arith) lt) h.2))
+      let on : kept N t' bs ≡ within N t' bs = kept_within (p + size b) bs h.2 in
+      let off : get_or us p 0 + N ≤ t' → within N t' bs ≡ [] = λ out.
+      none_within N t us falls N t' (p + size b) bs (λ k le lt. gone_from p out k (omega arith) lt) h.2 in
+      let first : get_or us p 0 ≡ b.stamp = h.1 in
+      grind (arith, nat_tests)

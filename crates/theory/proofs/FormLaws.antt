@@ -1,5 +1,5 @@
 -- Canonical levels, laid out, are formed buckets.
-use Rattle.std.proofs.Common.{◌≡◌, ℕ, suc, ◌+◌, ◌<◌, ◌≤◌, cond, eqb, ◌⊎◌, List, [], ◌∷◌, length, get_or, refl, ◌∙◌, subst, inl, inr, arith, pow_pos}
+use Rattle.std.proofs.Common.{◌≡◌, ℕ, suc, ◌+◌, ◌<◌, ◌≤◌, cond, eqb, List, [], ◌∷◌, length, get_or, refl, ◌∙◌, arith, pow_pos}
 use Rattle.std.proofs.lemmas.Bool.{cases_eq, cond-false, cond-true, eq-eqb, ne_eqb}
 use Rattle.theory.proofs.BracketLaws.{falls_at}
 use Rattle.theory.proofs.TopLaws.{top-flat, top-row_from}
@@ -14,14 +14,14 @@ use Rattle.theory.specs.declared.entries.Entry.{Entry}
 below_from : (us : List ℕ) → Falling us → (N t p q : ℕ) → p ≤ q → (bs : List Entry) → Stands N t us q bs → Below (get_or us p 0) (stamps bs)
 below_from us f N t p q le [] h = tt
 below_from us f N t p q le (b ∷ bs) h = (
-  subst (λ (x : ℕ). x ≤ get_or us p 0) h.1 (falls_at us f p q le (omega (arith, h.0, pow_pos b.exponent))),
+  omega (arith, h.1, falls_at us f p q le (omega (arith, h.0, pow_pos b.exponent))),
   below_from us f N t p (q + size b) (omega arith) bs h.2,
 )
 
 pub stamps_fall : (us : List ℕ) → Falling us → (N t p : ℕ) (bs : List Entry) → Stands N t us p bs → Falling (stamps bs)
 stamps_fall us f N t p [] h = tt
 stamps_fall us f N t p (b ∷ bs) h = (
-  subst (λ (x : ℕ). Below x (stamps bs)) h.1 (below_from us f N t p (p + size b) (omega arith) bs h.2),
+  rw h.1 at (below_from us f N t p (p + size b) (omega arith) bs h.2),
   stamps_fall us f N t (p + size b) bs h.2,
 )
 
@@ -63,30 +63,25 @@ many_low x e h [] = refl
 many_low x e h (ss ∷ rest) = many_other x e (λ q. omega arith) ss (flat (suc e) rest) ∙ many_low x (suc e) (omega arith) rest
 
 few_row : (l x e : ℕ) (ss : List ℕ) (rest : List (List ℕ)) → length ss ≤ l + 1 → how_many x (flat (suc e) rest) ≤ l + 1
-    → (e ≡ x) ⊎ (e ≡ x → ⊥) → how_many x (row e ss (flat (suc e) rest)) ≤ l + 1
-few_row l x e ss rest h ih (inl q) =
-    subst (λ (y : ℕ). how_many y (row e ss (flat (suc e) rest)) ≤ l + 1) q
-    (omega (arith, many_same e ss (flat (suc e) rest), many_low e (suc e) (omega arith) rest))
-few_row l x e ss rest h ih (inr n) = omega (arith, many_other x e n ss (flat (suc e) rest))
+    → how_many x (row e ss (flat (suc e) rest)) ≤ l + 1
+few_row l x e ss rest h ih =
+    let o = cases_eq e x in grind (arith, many_same e ss (flat (suc e) rest), many_low e (suc e) (omega arith) rest, many_other x e)
 
 pub few_flat : (l x e : ℕ) (levels : List (List ℕ)) → Canonical l levels → how_many x (flat e levels) ≤ l + 1
 few_flat l x e [] c = omega arith
-few_flat l x e (ss ∷ rest) c = few_row l x e ss rest c.1 (few_flat l x (suc e) rest c.3) (cases_eq e x)
+few_flat l x e (ss ∷ rest) c = few_row l x e ss rest c.1 (few_flat l x (suc e) rest c.3)
 
 enough_row : (l x e : ℕ) (ss next : List ℕ) (rest : List (List ℕ)) → l ≤ length ss
     → (suc e ≤ x → l ≤ how_many x (flat (suc e) (next ∷ rest))) → e ≤ x
-    → (e ≡ x) ⊎ (e ≡ x → ⊥) → l ≤ how_many x (row e ss (flat (suc e) (next ∷ rest)))
-enough_row l x e ss next rest h ih le (inl q) =
-    subst (λ (y : ℕ). l ≤ how_many y (row e ss (flat (suc e) (next ∷ rest)))) q
-    (omega (arith, many_same e ss (flat (suc e) (next ∷ rest))))
-enough_row l x e ss next rest h ih le (inr n) =
-    omega (arith, many_other x e n ss (flat (suc e) (next ∷ rest)), ih (omega arith))
+    → l ≤ how_many x (row e ss (flat (suc e) (next ∷ rest)))
+enough_row l x e ss next rest h ih le =
+    let o = cases_eq e x in grind (arith, many_same e ss (flat (suc e) (next ∷ rest)), many_other x e)
 
 enough_flat : (l x e : ℕ) (levels : List (List ℕ)) → Canonical l levels → e ≤ x → suc x < e + length levels → l ≤ how_many x (flat e levels)
 enough_flat l x e [] c le lt = absurd (omega arith)
 enough_flat l x e (ss ∷ []) c le lt = absurd (omega arith)
 enough_flat l x e (ss ∷ (next ∷ rest)) c le lt =
-    enough_row l x e ss next rest c.2 (λ h. enough_flat l x (suc e) (next ∷ rest) c.3 h (omega arith)) le (cases_eq e x)
+    enough_row l x e ss next rest c.2 (λ h. enough_flat l x (suc e) (next ∷ rest) c.3 h (omega arith)) le
 
 top_levels : (l : ℕ) (levels : List (List ℕ)) → Canonical l levels → (e : ℕ) → e < top (flat 0 levels) → suc e < length levels
 top_levels l [] c e h = absurd (omega arith)

@@ -1,20 +1,21 @@
 -- With few enough arrivals in the window the buckets fit the room.
-use Rattle.std.proofs.Common.{◌≡◌, ℕ, zero, suc, ◌+◌, ◌-◌, ◌*◌, ◌^◌, ◌<◌, ◌≤◌, true, cond, eqb, ltb, ◌⊎◌, List, [], ◌∷◌, ◌++◌, length, get_or, replicate, sym, refl, ap, ◌∙◌, subst, inl, inr, mul-le-mul_left, arith, pow_pos, pow_mono}
+use Rattle.std.proofs.Common.{◌≡◌, ℕ, zero, suc, ◌+◌, ◌-◌, ◌*◌, ◌^◌, ◌<◌, ◌≤◌, true, ltb, ◌⊎◌, List, [], ◌∷◌, ◌++◌, length, replicate, refl, ap, ◌∙◌, subst, inl, inr, mul-le-mul_left, arith, pow_pos, pow_mono}
 use Rattle.std.proofs.ByRecursion.{all_kept_by, All-weaker, kept_by_passes}
 use Rattle.std.proofs.lemmas.List.{append-nil, length-replicate}
-use Rattle.std.proofs.lemmas.Bool.{cases_lt, cond_both, cond-true, eqb-false, lt-ltb, ltb-false, ltb-true}
+use Rattle.std.proofs.lemmas.Bool.{cases_lt, lt-ltb, ltb-true}
+use Rattle.std.proofs.lemmas.Bool.Decides.{nat_tests}
 use Rattle.std.specs.List.{AllByRecursion}
 use Rattle.theory.proofs.BracketLaws.{error_bound}
 use Rattle.theory.proofs.GroupLaws.{groups_stand}
-use Rattle.theory.proofs.KeepLaws.{at_levels, dropping_keeps, good_from, good_inserts, insertions_by_levels, insertions_keep, own_below, own_fall, own_keeps, own_arrivals}
+use Rattle.theory.proofs.KeepLaws.{at_levels, copies_all, dropping_keeps, good_from, good_inserts, insertions_by_levels, insertions_keep, own_all, own_fall, own_keeps, own_arrivals, stamps_from}
 use Rattle.theory.proofs.PushLaws.{all_canon}
 use Rattle.theory.proofs.SizeLaws.{all_total, few_levels, high_total, last_flat, last_row, low_total}
 use Rattle.theory.proofs.SoundLaws.{formed_says, sound_from, sound_says}
-use Rattle.theory.proofs.TopLaws.{count_bound, length-flat, top-flat, top-row_from}
+use Rattle.theory.proofs.TopLaws.{count_bound, length-flat, row_small, top-flat, top-row_from}
 use Rattle.theory.proofs.Views.{Below, Formed, Stands}
 use Rattle.theory.specs.Arrivals.{Falling, Keeps, Largest, at_tick, truth}
-use Rattle.theory.specs.Buckets.{insertions, low, closing_figure, oldest, size, stamps, top, top_from, total, within}
-use Rattle.theory.specs.Levels.{Canonical, flat, push_all, row}
+use Rattle.theory.specs.Buckets.{insertions, low, closing_figure, oldest, stamps, top, top_from, total, within}
+use Rattle.theory.specs.Levels.{Canonical, flat, push_all}
 use Rattle.theory.specs.Sound.{formed, sound_buckets}
 use Rattle.theory.specs.Theorems.{Few, Fits}
 use Rattle.theory.specs.declared.entries.Entry.{Entry}
@@ -22,50 +23,19 @@ use Rattle.theory.specs.declared.entries.Entry.{Entry}
 -- a window of W ticks has at most W × R arrivals
 one_tick : (W a : ℕ) (us : List ℕ) → truth (suc W) a us ≤ truth W a us + at_tick (a - W) us
 one_tick W a [] = omega arith
-one_tick W a (u ∷ us) =
-    cond_both (ltb a (u + suc W)) 1 0 (λ z. z + truth (suc W) a us ≤ (cond (ltb a (u + W)) 1 0 + truth W a us) +
-    (cond (eqb u (a - W)) 1 0 + at_tick (a - W) us))
-    (λ e. cond_both (ltb a (u + W)) 1 0 (λ z. 1 + truth (suc W) a us ≤ (z + truth W a us) + (cond (eqb u (a - W)) 1 0 + at_tick (a - W) us))
-    (λ f. omega (arith, one_tick W a us))
-    (λ f. cond_both (eqb u (a - W)) 1 0 (λ z. 1 + truth (suc W) a us ≤ (0 + truth W a us) + (z + at_tick (a - W) us))
-    (λ g. omega (arith, one_tick W a us))
-    (λ g. absurd (eqb-false u (a - W) g (omega (arith, ltb-true a (u + suc W) e, ltb-false a (u + W) f))))))
-    (λ e. omega (arith, one_tick W a us))
+one_tick W a (u ∷ us) = grind (arith, nat_tests, one_tick W a us)
 
 none_later : (a : ℕ) (us : List ℕ) → Below a us → truth 0 a us ≡ 0
 none_later a [] b = refl
-none_later a (u ∷ us) b =
-    cond_both (ltb a (u + 0)) 1 0 (λ z. z + truth 0 a us ≡ 0) (λ e. absurd (omega (arith, ltb-true a (u + 0) e, b.0)))
-    (λ e. omega (arith, none_later a us b.1))
+none_later a (u ∷ us) b = let ih : truth 0 a us ≡ 0 = none_later a us b.1 in let le : u ≤ a = b.0 in grind (arith, nat_tests)
 
 pub window_few : (R a : ℕ) (us : List ℕ) → ((s : ℕ) → at_tick s us ≤ R) → Below a us → (W : ℕ) → truth W a us ≤ W * R
 window_few R a us h b zero = omega (arith, none_later a us b)
 window_few R a us h b (suc W) = omega (arith, one_tick W a us, h (a - W), window_few R a us h b W)
 
--- what holds of each arrival holds of each bucket's stamp
-pub stamps_from : (Q : ℕ → Type 0) (N t : ℕ) (us : List ℕ) → ((k : ℕ) → k < length us → Q (get_or us k 0)) → (p : ℕ) (bs : List Entry)
-    → Stands N t us p bs → AllByRecursion (λ x. Q x.stamp) bs
-stamps_from Q N t us h p [] s = tt
-stamps_from Q N t us h p (x ∷ bs) s =
-    (subst Q s.1 (h p (omega (arith, s.0, pow_pos x.exponent))), stamps_from Q N t us h (p + size x) bs s.2)
-
-pub all_copies : (Q : ℕ → Type 0) (n s : ℕ) (us : List ℕ) → Q s → ((k : ℕ) → k < length us → Q (get_or us k 0)) → (k : ℕ)
-    → k < length (replicate n s ++ us) → Q (get_or (replicate n s ++ us) k 0)
-all_copies Q zero s us q h k lt = h k lt
-all_copies Q (suc n) s us q h zero lt = q
-all_copies Q (suc n) s us q h (suc k) lt = all_copies Q n s us q h k (omega arith)
-
-row_small : (m e : ℕ) → e < m → (ss : List ℕ) (older : List Entry) → AllByRecursion (λ x. x.exponent < m) older → AllByRecursion (λ x. x.exponent < m) (row e ss older)
-row_small m e h [] older o = o
-row_small m e h (s ∷ ss) older o = (h, row_small m e h ss older o)
-
 pub flat_small : (m e : ℕ) (levels : List (List ℕ)) → e + length levels ≤ m → AllByRecursion (λ x. x.exponent < m) (flat e levels)
 flat_small m e [] h = tt
 flat_small m e (ss ∷ rest) h = row_small m e (omega arith) ss (flat (suc e) rest) (flat_small m (suc e) rest (omega arith))
-
-own_all : (Q : ℕ → Type 0) (bs : List Entry) → AllByRecursion (λ b. Q b.stamp) bs → (k : ℕ) → k < length (own_arrivals bs) → Q (get_or (own_arrivals bs) k 0)
-own_all Q [] e k lt = absurd (omega arith)
-own_all Q (x ∷ bs) e k lt = all_copies Q (size x) x.stamp (own_arrivals bs) e.0 (own_all Q bs e.1) k lt
 
 pub within_live : (N t : ℕ) (bs : List Entry) → AllByRecursion (λ b. t < b.stamp + N) (within N t bs)
 within_live N t bs = All-weaker (λ b. ltb t (b.stamp + N) ≡ true) (λ b. t < b.stamp + N) (λ b q. ltb-true t (b.stamp + N) q)
@@ -76,26 +46,26 @@ all_within P N t bs h = all_kept_by (λ b. ltb t (b.stamp + N)) P bs h
 
 pub within_all : (N t : ℕ) (bs : List Entry) → AllByRecursion (λ b. t < b.stamp + N) bs → within N t bs ≡ bs
 within_all N t [] h = refl
-within_all N t (b ∷ bs) h =
-    cond-true (ltb t (b.stamp + N)) (b ∷ within N t bs) (within N t bs) (lt-ltb t (b.stamp + N) h.0)
-    ∙ ap {B = List Entry} (λ r. b ∷ r) (within_all N t bs h.1)
+within_all N t (b ∷ bs) h = rw (lt-ltb t (b.stamp + N) h.0, within_all N t bs h.1) refl
 
-stamps_all : (P : ℕ → Type 0) (bs : List Entry) → AllByRecursion P (stamps bs) → AllByRecursion (λ b. P b.stamp) bs
-stamps_all P [] h = tt
-stamps_all P (b ∷ bs) h = (h.0, stamps_all P bs h.1)
-
+-- what is said of each bucket's stamp, and of the list of the stamps
 pub all_stamps : (P : ℕ → Type 0) (bs : List Entry) → AllByRecursion (λ b. P b.stamp) bs → AllByRecursion P (stamps bs)
 all_stamps P [] h = tt
 all_stamps P (b ∷ bs) h = (h.0, all_stamps P bs h.1)
+
+each_stamp : (P : ℕ → Type 0) (bs : List Entry) → AllByRecursion P (stamps bs) → AllByRecursion (λ b. P b.stamp) bs
+each_stamp P [] h = tt
+each_stamp P (b ∷ bs) h = (h.0, each_stamp P bs h.1)
 
 -- v arrivals at tick t into live buckets leave live buckets
 pub inserted_live : (l N t v : ℕ) (bs : List Entry) → 1 ≤ l → 0 < N → Formed l bs → Below t (stamps bs) → AllByRecursion (λ b. t < b.stamp + N) bs
     → AllByRecursion (λ b. t < b.stamp + N) (insertions l v t bs)
 inserted_live l N t v bs one pos f b live =
-    let good = good_inserts l N t v t one (own_arrivals bs) bs (own_below t bs b) (own_fall bs f.falling)
+    let Live : ℕ → Type 0 = λ u. t < u + N in
+    let good = good_inserts l N t v t one (own_arrivals bs) bs (own_all (λ u. u ≤ t) bs b) (own_fall bs f.falling)
     (good_from l N t (own_arrivals bs) bs (own_keeps l N t bs f b)) in
-    stamps_from (λ u. t < u + N) N t (replicate v t ++ own_arrivals bs)
-    (all_copies (λ u. t < u + N) v t (own_arrivals bs) (omega arith) (own_all (λ u. t < u + N) bs live)) 0 (insertions l v t bs) good.1
+    each_stamp Live (insertions l v t bs) (stamps_from Live (replicate v t ++ own_arrivals bs)
+    (copies_all Live v t (own_arrivals bs) (omega arith) (own_all Live bs (all_stamps Live bs live))) N t 0 (insertions l v t bs) good.1)
 
 -- v arrivals as one batch: the levels they leave, and the sum of the sizes
 pub record Batch (l t v : ℕ) (bs : List Entry) : Type 0 where
@@ -152,7 +122,7 @@ insertion_sound l r N early t v bs one pos le h fits =
         form = formed-after.0;
         arrived = formed-after.1;
         live = inserted_live l N t v (within N t bs) one pos facts.0 facts.1 (within_live N t bs);
-        small = subst (AllByRecursion (λ b. b.exponent ≤ r)) (sym b.same) room.1;
+        small = rw b.same room.1;
       }),
       omega (arith, ap length b.same, room.0),
     )
@@ -194,7 +164,7 @@ sizes_of l N t us x ss rest c f s e =
     (λ (k : ℕ). 2 ^ k) z in
     let low-here : low (flat 0 levels) ≡ (T - 2 ^ K) + 1 = low_is (flat 0 levels) (omega arith) ∙ ap (λ (y : ℕ). (T - y) + 1) last in
     record {
-      lower = subst (λ (k : ℕ). (l + 1) * 2 ^ k ≤ T + l) z (omega (arith, low_total l 0 (x ∷ ss) rest c));
+      lower = omega (arith, rw z at (low_total l 0 (x ∷ ss) rest c));
       under = omega (arith, bound, low-here);
       upper = omega (arith, high_total l 0 levels c);
     }
@@ -215,9 +185,8 @@ levels_fit l r N t us ((x ∷ ss) ∷ rest) c f s e h = go (total (flat 0 ((x �
     go T K z (inr le) = absurd (small_top l (2 ^ (r + 1)) (2 ^ K) T (truth N t us) (pow_pos (r + 1)) z.lower z.under h (pow_mono le))
 
 -- what is not below m is at least m
-not_largest : (l m r : ℕ) → Largest l m r → (l * (2 ^ (r + 1) - 1) < m) ⊎ (m ≤ l * (2 ^ (r + 1) - 1)) → m ≤ l * (2 ^ (r + 1) - 1)
-not_largest l m r h (inl lt) = absurd (omega (arith, h.last (r + 1) lt))
-not_largest l m r h (inr le) = le
+not_largest : (l m r : ℕ) → Largest l m r → m ≤ l * (2 ^ (r + 1) - 1)
+not_largest l m r h = let last : l * (2 ^ (r + 1) - 1) < m → r + 1 ≤ r = h.last (r + 1) in grind arith
 
 top_small : (e r : ℕ) (bs : List Entry) → e ≤ r → AllByRecursion (λ b. b.exponent ≤ r) bs → top_from e bs ≤ r
 top_small e r [] h k = h
@@ -233,13 +202,13 @@ never_full l r m N early t v us bs one pos le largest keeps few =
     let live = inserted_live l N t v (within N t bs) one pos facts.0 facts.1 (within_live N t bs) in
     let stands = (good_from l N t (replicate v t ++ us) (insertions l v t (within N t bs)) after).1 in
     let fit : total (flat 0 b.levels) ≤ closing_figure l r =
-    levels_fit l r N t (replicate v t ++ us) b.levels b.canonical after.falling (subst (Stands N t (replicate v t ++ us) 0) b.same stands)
-    (within_all N t (flat 0 b.levels) (subst (AllByRecursion (λ b. t < b.stamp + N)) b.same live))
-    (omega (arith, few, not_largest l m r largest (cases_lt (l * (2 ^ (r + 1) - 1)) m))) in
+    levels_fit l r N t (replicate v t ++ us) b.levels b.canonical after.falling (rw b.same at stands)
+    (within_all N t (flat 0 b.levels) (rw b.same at live))
+    (omega (arith, few, not_largest l m r largest)) in
     let room = levels_room l r b.levels b.canonical fit in
     record {
       closing = omega (arith, b.sizes, fit);
-      exponents = top_small 0 r (insertions l v t (within N t bs)) (omega arith) (subst (AllByRecursion (λ b. b.exponent ≤ r)) (sym b.same) room.1);
+      exponents = top_small 0 r (insertions l v t (within N t bs)) (omega arith) (rw b.same room.1);
       room = omega (arith, ap length b.same, room.0);
     }
 
@@ -258,8 +227,7 @@ window_levels l N t us ([] ∷ rest) c f s h e = absurd (omega arith)
 window_levels l N t us ((x ∷ ss) ∷ rest) c f s h e =
     let K : top (flat 0 ((x ∷ ss) ∷ rest)) ≡ length rest = top-row_from 0 0 (x ∷ ss) (flat 1 rest) (omega arith) ∙ top-flat l 0 rest c.3
     ∙ omega arith in
-    subst (λ (k : ℕ). l * (2 ^ k - 1) < truth N t us) (sym K) (top_by_window l (length rest) (total (flat 0 ((x ∷ ss) ∷ rest)))
-    (truth N t us) (sizes_of l N t us x ss rest c f s e))
+    rw K (top_by_window l (length rest) (total (flat 0 ((x ∷ ss) ∷ rest))) (truth N t us) (sizes_of l N t us x ss rest c f s e))
 
 count_levels : (l N t : ℕ) (us : List ℕ) (levels : List (List ℕ)) → Canonical l levels → 1 ≤ length (flat 0 levels) → Stands N t us 0 (flat 0 levels)
     → (length (flat 0 levels) ≤ (l + 1) * (top (flat 0 levels) + 1)) × (l * (2 ^ top (flat 0 levels) - 1) < length us)
@@ -273,7 +241,7 @@ few_buckets l N t us bs keeps some =
     let counts = at_levels l bs f (λ x. 1 ≤ length x → Stands 0 0 s.covered 0 x → (length x ≤ (l + 1) * (top x + 1)) ×
     (l * (2 ^ top x - 1) < length s.covered))
     (λ levels c one stands. count_levels l 0 0 s.covered levels c one stands)
-    some (subst (λ (xs : List ℕ). Stands 0 0 xs 0 bs) (append-nil s.covered) (groups_stand 0 0 s.covered [] bs s.groups tt)) in
+    some (rw append-nil at (groups_stand 0 0 s.covered [] bs s.groups tt)) in
     record {
       few = counts.0;
       by_covered = counts.1;

@@ -1,7 +1,7 @@
 -- Buckets that stand for groups of arrivals, and buckets by the places of their arrivals, are the same.
-use Rattle.std.proofs.Common.{◌≡◌, ℕ, ◌+◌, ◌-◌, ◌≤◌, List, [], ◌∷◌, ◌++◌, length, get_or, take, drop, sym, refl, ap, ◌∙◌, subst, append_assoc, arith, pow_pos}
+use Rattle.std.proofs.Common.{◌≡◌, ℕ, ◌+◌, ◌-◌, ◌≤◌, List, [], ◌∷◌, ◌++◌, length, get_or, take, drop, sym, refl, ap, ◌∙◌, append_assoc, arith, pow_pos}
 use Rattle.std.proofs.ByRecursion.{All-from_get_or, All-get_or}
-use Rattle.std.proofs.lemmas.List.{drop-drop, get_or_append_left, get_or-append_right, get_or-drop, get_or-take, length-append, length-drop, length-take-le, take-append-drop}
+use Rattle.std.proofs.lemmas.List.{drop-drop, get_or-append_right, get_or-drop, get_or-take, length-append, length-drop, length-take-le, places, take-append-drop}
 use Rattle.std.specs.List.{AllByRecursion}
 use Rattle.theory.proofs.Views.{Stands}
 use Rattle.theory.specs.Arrivals.{Groups}
@@ -21,13 +21,11 @@ groups N t us p (b ∷ bs) h =
     let ih = groups N t us (p + size b) bs h.2 in
     let g : List ℕ = take (size b) (drop p us) in
     let fits : size b ≤ length (drop p us) = omega (arith, h.0, length-drop p us) in
-    let split : drop p us ≡ g ++ drop (p + size b) us =
-    sym (take-append-drop (size b) (drop p us)) ∙ ap (λ r. g ++ r) (drop-drop (size b) p us) in
     let first : get_or g 0 0 ≡ get_or us p 0 =
     get_or-take (size b) (drop p us) 0 0 (pow_pos b.exponent) ∙ get_or-drop p us 0 0 ∙ ap (λ i. get_or us i 0) (omega arith) in (
       g ++ ih.0,
       ih.1,
-      split ∙ ap (λ r. g ++ r) ih.2 ∙ sym (append_assoc g ih.0 ih.1),
+      rw (append_assoc g ih.0 ih.1, ← ih.2, ← drop-drop (size b) p us) (sym (take-append-drop (size b) (drop p us))),
       (g, ih.0, refl, length-take-le (size b) (drop p us) fits, first ∙ h.1, ih.3),
       ih.4,
     )
@@ -36,27 +34,19 @@ from_groups : (N t : ℕ) (us back : List ℕ) → AllByRecursion (λ u. u + N �
     → Groups bs front → Stands N t us (length pre) bs
 from_groups N t us back h pre front [] e r =
     λ k le lt.
-    let e' : us ≡ pre ++ back = e ∙ ap (λ f. pre ++ (f ++ back)) r in
-    let n : length us ≡ length pre + length back = ap length e' ∙ length-append pre back in
-    subst (λ (xs : List ℕ). get_or xs k 0 + N ≤ t) (sym e')
-    (rw (get_or-append_right pre back (length pre) k 0 refl le) (All-get_or (λ u. u + N ≤ t) back (k - length pre) 0 (omega arith) h))
+    let n : length us ≡ length pre + length back = rw (e, r) (length-append pre back) in
+    rw (e, r, get_or-append_right pre back (length pre) k 0 refl le) (All-get_or (λ u. u + N ≤ t) back (k - length pre) 0 (omega arith) h)
 from_groups N t us back h pre front (b ∷ bs) e r =
     let g = r.0 in
     let rest = r.1 in
-    let e' : us ≡ pre ++ (g ++ (rest ++ back)) = e ∙ ap (λ f. pre ++ (f ++ back)) r.2 ∙ ap (λ x. pre ++ x) (append_assoc g rest back) in
-    let e'' : us ≡ (pre ++ g) ++ (rest ++ back) = e' ∙ sym (append_assoc pre g (rest ++ back)) in
-    let n : length us ≡ length pre + length (g ++ (rest ++ back)) = ap length e' ∙ length-append pre (g ++ (rest ++ back)) in
-    let first : get_or us (length pre) 0 ≡ b.stamp =
-    ap (λ xs. get_or xs (length pre) 0) e'
-    ∙ get_or-append_right pre (g ++ (rest ++ back)) (length pre) (length pre) 0 refl (omega arith)
-    ∙ ap (λ i. get_or (g ++ (rest ++ back)) i 0) (omega arith)
-    ∙ get_or_append_left g (rest ++ back) 0 0 (omega (arith, r.3, pow_pos b.exponent))
-    ∙ r.4 in
-    let next : length (pre ++ g) ≡ length pre + size b = omega (arith, length-append pre g, r.3) in (
-      omega (arith, length-append g (rest ++ back), r.3),
-      first,
-      subst (λ (i : ℕ). Stands N t us i bs) next (from_groups N t us back h (pre ++ g) rest bs e'' r.5),
-    )
+    let e' : us ≡ (pre ++ g) ++ (rest ++ back) = rw (e, r.2) (simp append_assoc) in
+    let size-is : length g ≡ size b = r.3 in
+    let pos : 1 ≤ size b = pow_pos b.exponent in
+    let stamp-is : get_or g 0 0 ≡ b.stamp = r.4 in
+    let n : length us ≡ (length pre + length g) + length (rest ++ back) = rw e' (simp length-append) in
+    let first : get_or us (length pre) 0 ≡ b.stamp = rw e' (grind (arith, places)) in
+    let next : length (pre ++ g) ≡ length pre + size b = omega (arith, length-append pre g) in
+    (omega arith, first, rw (← next) (from_groups N t us back h (pre ++ g) rest bs e' r.5))
 
 pub groups_stand : (N t : ℕ) (front back : List ℕ) (bs : List Entry) → Groups bs front → AllByRecursion (λ u. u + N ≤ t) back → Stands N t (front ++ back) 0 bs
 groups_stand N t front back bs r h = from_groups N t (front ++ back) back h [] front bs refl r

@@ -1,7 +1,9 @@
 -- Insertion and dropping keep a histogram one, and its answers bracket the truth.
 use Rattle.std.proofs.Common.{◌≡◌, ℕ, zero, suc, ◌+◌, ◌≤◌, true, List, [], ◌∷◌, ◌++◌, replicate, sym, refl, ap, ◌∙◌, subst, arith, pow_pos}
 use Rattle.std.proofs.lemmas.List.{append-nil, get_or-replicate, length-replicate}
-use Rattle.theory.proofs.BracketLaws.{below_at, error_bound}
+use Rattle.std.proofs.ByRecursion.{All-get_or}
+use Rattle.std.specs.List.{AllByRecursion}
+use Rattle.theory.proofs.BracketLaws.{error_bound}
 use Rattle.theory.proofs.DropLaws.{flat_trim, kept_stands, kept_within, trim_canon}
 use Rattle.theory.proofs.FormLaws.{formed_levels, stamps_fall}
 use Rattle.theory.proofs.GroupLaws.{groups, groups_stand}
@@ -21,12 +23,12 @@ pub at_levels : (l : ℕ) (bs : List Entry) → Formed l bs → (P : List Entry 
     → ((levels : List (List ℕ)) → Canonical l levels → P (flat 0 levels)) → P bs
 at_levels l bs h P f = let r = levels_of l bs h in subst P r.1 (f r.0 r.2)
 
--- the buckets' stamps are ticks of arrivals
-pub stamps_below : (us : List ℕ) (x : ℕ) → Below x us → (N t p : ℕ) (bs : List Entry) → Stands N t us p bs → Below x (stamps bs)
-stamps_below us x b N t p [] h = tt
-stamps_below us x b N t p (c ∷ bs) h = (
-  subst (λ (y : ℕ). y ≤ x) h.1 (below_at x us b p (omega (arith, h.0, pow_pos c.exponent))),
-  stamps_below us x b N t (p + size c) bs h.2,
+-- the buckets' stamps are ticks of arrivals: what holds of each tick holds of each stamp
+pub stamps_from : (Q : ℕ → Type 0) (us : List ℕ) → AllByRecursion Q us → (N t p : ℕ) (bs : List Entry) → Stands N t us p bs → AllByRecursion Q (stamps bs)
+stamps_from Q us q N t p [] h = tt
+stamps_from Q us q N t p (c ∷ bs) h = (
+  rw h.1 at (All-get_or Q us p 0 (omega (arith, h.0, pow_pos c.exponent)) q),
+  stamps_from Q us q N t (p + size c) bs h.2,
 )
 
 -- formed buckets that stand for arrivals, by places
@@ -39,11 +41,10 @@ good_insert l N t s g us bs f h =
     (λ levels c stands.
     let now : Stands N t (s ∷ us) 0 (flat 0 (push l s levels)) = push_stands N t l s us levels c stands in
     let fall : Falling (s ∷ stamps (flat 0 levels)) = (
-      stamps_below us s f.0 N t 0 (flat 0 levels) stands,
-      stamps_fall us f.1 N t 0
-          (flat 0 levels) stands,
+      stamps_from (λ u. u ≤ s) us f.0 N t 0 (flat 0 levels) stands,
+      stamps_fall us f.1 N t 0 (flat 0 levels) stands,
     ) in
-    subst (Good l N t (s ∷ us)) (sym (push-insert l s levels c fall))
+    rw (push-insert l s levels c fall)
     (formed_levels l (push l s levels) (push-canon l g s levels c) (stamps_fall (s ∷ us) f N t 0 (flat 0 (push l s levels)) now), now))
     h.1
 
@@ -51,22 +52,20 @@ pub good_drop : (l N t t' : ℕ) → t ≤ t' → (us : List ℕ) (bs : List Ent
 good_drop l N t t' le us bs f h =
     at_levels l bs h.0 (λ r. Stands N t us 0 r → Good l N t' us (within N t' r))
     (λ levels c stands.
-    let same : flat 0 (trim N t' levels) ≡ within N t' (flat 0 levels) =
-    flat_trim N t' 0 levels ∙ kept_within N t t' us f 0 (flat 0 levels) stands in
     let now : Stands N t' us 0 (flat 0 (trim N t' levels)) =
-    subst (Stands N t' us 0) (sym (flat_trim N t' 0 levels)) (kept_stands N t t' us f le 0 (flat 0 levels) stands) in
-    subst (Good l N t' us) same
+    rw (flat_trim N t' 0 levels) (kept_stands N t t' us f le 0 (flat 0 levels) stands) in
+    rw (← kept_within N t t' us f 0 (flat 0 levels) stands, ← flat_trim N t' 0 levels)
     (formed_levels l (trim N t' levels) (trim_canon N t' l levels c) (stamps_fall us f N t' 0 (flat 0 (trim N t' levels)) now), now))
     h.1
 
 -- several arrivals at one tick
-pub copies_below : (v s r : ℕ) (us : List ℕ) → s ≤ r → Below r us → Below r (replicate v s ++ us)
-copies_below zero s r us h b = b
-copies_below (suc v) s r us h b = (h, copies_below v s r us h b)
+pub copies_all : (Q : ℕ → Type 0) (v s : ℕ) (us : List ℕ) → Q s → AllByRecursion Q us → AllByRecursion Q (replicate v s ++ us)
+copies_all Q zero s us q h = h
+copies_all Q (suc v) s us q h = (q, copies_all Q v s us q h)
 
 pub copies_fall : (v s : ℕ) (us : List ℕ) → Below s us → Falling us → Falling (replicate v s ++ us)
 copies_fall zero s us b f = f
-copies_fall (suc v) s us b f = (copies_below v s s us (omega arith) b, copies_fall v s us b f)
+copies_fall (suc v) s us b f = (copies_all (λ u. u ≤ s) v s us (omega arith) b, copies_fall v s us b f)
 
 pub good_inserts : (l N t v s : ℕ) → 1 ≤ l → (us : List ℕ) (bs : List Entry) → Below s us → Falling us → Good l N t us bs
     → Good l N t (replicate v s ++ us) (insertions l v s bs)
@@ -79,8 +78,7 @@ pub good_from : (l N t : ℕ) (us : List ℕ) (bs : List Entry) → Keeps l N t 
 good_from l N t us bs k =
     let s = k.stand_for in (
       (formed_says l t bs k.formed).0,
-      subst (λ (xs : List ℕ). Stands N t xs 0 bs) (sym s.split)
-          (groups_stand N t s.covered s.lost bs s.groups s.expired),
+      rw s.split (groups_stand N t s.covered s.lost bs s.groups s.expired),
     )
 
 pub keeps_from : (l N t : ℕ) (us : List ℕ) (bs : List Entry) → Falling us → Below t us → Good l N t us bs → Keeps l N t us bs
@@ -89,7 +87,7 @@ keeps_from l N t us bs f b g =
     record {
       falling = f;
       arrived = b;
-      formed = formed_from l t bs g.0 (stamps_below us t b N t 0 bs g.1);
+      formed = formed_from l t bs g.0 (stamps_from (λ u. u ≤ t) us b N t 0 bs g.1);
       stand_for = record { covered = p.0; lost = p.1; split = p.2; groups = p.3; expired = p.4 };
     }
 
@@ -100,7 +98,7 @@ pub insertions_keep : (l N t v : ℕ) (us : List ℕ) (bs : List Entry) → 1 �
     → Keeps l N t (replicate v t ++ us) (insertions l v t bs)
 insertions_keep l N t v us bs one k =
     keeps_from l N t (replicate v t ++ us) (insertions l v t bs) (copies_fall v t us k.arrived k.falling)
-    (copies_below v t t us (omega arith) k.arrived)
+    (copies_all (λ u. u ≤ t) v t us (omega arith) k.arrived)
     (good_inserts l N t v t one us bs k.arrived k.falling (good_from l N t us bs k))
 
 pub insertion_keeps : (l N t : ℕ) (us : List ℕ) (bs : List Entry) → 1 ≤ l → Keeps l N t us bs → Keeps l N t (t ∷ us) (insert l t bs)
@@ -131,24 +129,23 @@ own_groups (b ∷ bs) = (
   own_arrivals bs,
   refl,
   length-replicate (size b) b.stamp,
-  get_or-replicate (size b) 0 b.stamp 0
-      (pow_pos b.exponent),
+  get_or-replicate (size b) 0 b.stamp 0 (pow_pos b.exponent),
   own_groups bs,
 )
 
-pub own_below : (x : ℕ) (bs : List Entry) → Below x (stamps bs) → Below x (own_arrivals bs)
-own_below x [] b = tt
-own_below x (y ∷ bs) b = copies_below (size y) y.stamp x (own_arrivals bs) b.0 (own_below x bs b.1)
+pub own_all : (Q : ℕ → Type 0) (bs : List Entry) → AllByRecursion Q (stamps bs) → AllByRecursion Q (own_arrivals bs)
+own_all Q [] h = tt
+own_all Q (b ∷ bs) h = copies_all Q (size b) b.stamp (own_arrivals bs) h.0 (own_all Q bs h.1)
 
 pub own_fall : (bs : List Entry) → Falling (stamps bs) → Falling (own_arrivals bs)
 own_fall [] f = tt
-own_fall (b ∷ bs) f = copies_fall (size b) b.stamp (own_arrivals bs) (own_below b.stamp bs f.0) (own_fall bs f.1)
+own_fall (b ∷ bs) f = copies_fall (size b) b.stamp (own_arrivals bs) (own_all (λ u. u ≤ b.stamp) bs f.0) (own_fall bs f.1)
 
 -- formed buckets are a histogram of their own arrivals
 pub own_keeps : (l N t : ℕ) (bs : List Entry) → Formed l bs → Below t (stamps bs) → Keeps l N t (own_arrivals bs) bs
 own_keeps l N t bs f b =
-    keeps_from l N t (own_arrivals bs) bs (own_fall bs f.falling) (own_below t bs b)
-    (f, subst (λ (us : List ℕ). Stands N t us 0 bs) (append-nil (own_arrivals bs)) (groups_stand N t (own_arrivals bs) [] bs (own_groups bs) tt))
+    keeps_from l N t (own_arrivals bs) bs (own_fall bs f.falling) (own_all (λ u. u ≤ t) bs b)
+    (f, rw append-nil at (groups_stand N t (own_arrivals bs) [] bs (own_groups bs) tt))
 
 -- insertions one by one, by levels
 pub inserted_levels : (l t v : ℕ) (levels : List (List ℕ)) → 1 ≤ l → Canonical l levels → Below t (stamps (flat 0 levels))
@@ -161,13 +158,13 @@ inserted_levels l t (suc v) levels one c b f =
     (own_keeps l 0 t (flat 0 levels) (formed_levels l levels c f) b) in
     let facts = formed_says l t (insertions l v t (flat 0 levels)) now.formed in
     ap (insert l t) e ∙ push-insert l t (push_all l (replicate v t) levels) (all_canon l one (replicate v t) levels c)
-    (subst (λ (bs : List Entry). Falling (t ∷ stamps bs)) e (facts.1, facts.0.falling))
+    (rw (← e) (facts.1, facts.0.falling))
 
 pub insertions_by_levels : (l t v : ℕ) (bs : List Entry) → 1 ≤ l → formed l t bs ≡ true
     → (levels : List (List ℕ)) × Canonical l levels × (bs ≡ flat 0 levels) × (insertions l v t bs ≡ flat 0 (push_all l (replicate v t) levels))
 insertions_by_levels l t v bs one h =
     let f = formed_says l t bs h in
     let r = levels_of l bs f.0 in
-    let b = subst (λ (xs : List Entry). Below t (stamps xs)) (sym r.1) f.1 in
-    let fall = subst (λ (xs : List Entry). Falling (stamps xs)) (sym r.1) f.0.falling in
+    let b : Below t (stamps (flat 0 r.0)) = rw r.1 f.1 in
+    let fall : Falling (stamps (flat 0 r.0)) = rw r.1 f.0.falling in
     (r.0, r.2, sym r.1, ap (insertions l v t) (sym r.1) ∙ inserted_levels l t v r.0 one r.2 b fall)

@@ -1,6 +1,7 @@
 -- Formed buckets have levels.
-use Rattle.std.proofs.Common.{◌≡◌, ℕ, suc, ◌+◌, ◌<◌, ◌≤◌, cond, eqb, List, [], ◌∷◌, length, sym, refl, ap, ◌∙◌, subst, arith}
-use Rattle.std.proofs.lemmas.Bool.{cond_both, eqb-false, eqb-true}
+use Rattle.std.proofs.Common.{◌≡◌, ℕ, suc, ◌+◌, ◌<◌, ◌≤◌, ◌≢◌, cond, eqb, List, [], ◌∷◌, length, refl, arith}
+use Rattle.std.proofs.lemmas.Bool.{cond_both}
+use Rattle.std.proofs.lemmas.Bool.Decides.{nat_tests}
 use Rattle.theory.proofs.FormLaws.{many_low, many_other, many_same}
 use Rattle.theory.proofs.TopLaws.{top-row_from}
 use Rattle.theory.proofs.Views.{Formed, Steps}
@@ -24,12 +25,8 @@ flat_gather : (b : Entry) (bs : List Entry) → Steps b.exponent bs → flat b.e
 flat_gather b [] h = refl
 flat_gather b (c ∷ bs) h =
     let ih : flat c.exponent (gather c bs) ≡ c ∷ bs = flat_gather c bs h.2 in
-    cond_both (eqb b.exponent c.exponent) (onto b.stamp (gather c bs)) ((b.stamp ∷ []) ∷ gather c bs)
-    (λ ls. flat b.exponent ls ≡ b ∷ (c ∷ bs))
-    (λ q. flat_onto b.exponent b.stamp (gather c bs)
-    ∙ ap {B = List Entry} (λ r. b ∷ r) (ap (λ e. flat e (gather c bs)) (eqb-true b.exponent c.exponent q) ∙ ih))
-    (λ q. let up : suc b.exponent ≡ c.exponent = omega (arith, eqb-false b.exponent c.exponent q, h.0, h.1) in
-    ap {B = List Entry} (λ r. b ∷ r) (ap (λ e. flat e (gather c bs)) up ∙ ih))
+    let up : b.exponent ≢ c.exponent → suc b.exponent ≡ c.exponent = λ n. omega (arith, h.0, h.1) in
+    grind (arith, nat_tests, flat_onto b.exponent b.stamp (gather c bs))
 
 abbrev Rows : List (List ℕ) → Type 0
 Rows [] = Unit {0}
@@ -75,13 +72,13 @@ levels_of l [] h = ([], refl, tt)
 levels_of l (b ∷ bs) h =
     let levels = gather b bs in
     let zero-first : b.exponent ≡ 0 = h.begins.0 in
-    let steps : Steps b.exponent bs = subst (λ (e : ℕ). Steps e bs) (sym zero-first) h.begins.1 in
-    let same : flat 0 (gather b bs) ≡ b ∷ bs = ap (λ e. flat e (gather b bs)) (sym zero-first) ∙ flat_gather b bs steps in (
+    let steps : Steps b.exponent bs = rw zero-first h.begins.1 in
+    let same : flat 0 (gather b bs) ≡ b ∷ bs = rw (← zero-first) (flat_gather b bs steps) in (
       gather b bs,
       same,
       canon_from l 0 (gather b bs) (rows_gather b bs)
           (λ x _. rw same (h.few x))
-          (λ x _ lt. rw same (h.enough x (subst (λ (r : List Entry). x < top r) same (high (gather b bs) (rows_gather b bs) x (omega arith))))),
+          (λ x _ lt. rw same (h.enough x (rw same at (high (gather b bs) (rows_gather b bs) x (omega arith))))),
     )
   where
     high : (levels : List (List ℕ)) → Rows levels → (x : ℕ) → suc x < length levels → x < top (flat 0 levels)

@@ -1,8 +1,10 @@
 -- Merging upward over the list of buckets is the push into the levels.
-use Rattle.std.proofs.Common.{◌≡◌, ℕ, zero, suc, ◌+◌, ◌<◌, ◌≤◌, max, cond, ◌&&◌, eqb, leb, ◌⊎◌, List, [], ◌∷◌, ◌++◌, length, get_or, take, drop, sym, refl, ap, ◌∙◌, subst, inl, inr, append_assoc, arith}
-use Rattle.std.proofs.lemmas.Bool.{and_from, and_left, and_right, cases_eq, cond_both, cond-false, cond-true, eq-eqb, leb-false, leb-true, ne_eqb}
+use Rattle.std.proofs.Common.{◌≡◌, ℕ, zero, suc, ◌+◌, ◌<◌, ◌≤◌, max, leb, ◌⊎◌, List, [], ◌∷◌, ◌++◌, length, get_or, take, sym, refl, ap, ◌∙◌, inl, inr, append_assoc, arith}
+use Rattle.std.proofs.lemmas.Bool.{cases_eq, cond_both, eq-eqb, leb-false, leb-true, ne_eqb}
 use Rattle.theory.proofs.FormLaws.{few_flat, many_low, many_other, many_same, one_other}
-use Rattle.theory.proofs.TopLaws.{length-row}
+use Rattle.std.proofs.ByRecursion.{All-append, All-weaker}
+use Rattle.std.specs.List.{AllByRecursion}
+use Rattle.theory.proofs.TopLaws.{length-row, row_small}
 use Rattle.theory.proofs.Views.{Below}
 use Rattle.theory.specs.Arrivals.{Falling}
 use Rattle.theory.specs.Buckets.{how_many, insert, merge_at, merge_up, stamps}
@@ -11,20 +13,10 @@ use Rattle.theory.specs.declared.entries.Entry.{Entry}
 
 -- all exponents below e
 abbrev Under : ℕ → List Entry → Type 0
-Under e [] = Unit {0}
-Under e (b ∷ bs) = (b.exponent < e) × Under e bs
+Under e bs = AllByRecursion (λ b. b.exponent < e) bs
 
 under_more : (e : ℕ) (bs : List Entry) → Under e bs → Under (suc e) bs
-under_more e [] h = tt
-under_more e (b ∷ bs) h = (omega arith, under_more e bs h.1)
-
-under-append : (e : ℕ) (xs ys : List Entry) → Under e xs → Under e ys → Under e (xs ++ ys)
-under-append e [] ys h k = k
-under-append e (x ∷ xs) ys h k = (h.0, under-append e xs ys h.1 k)
-
-under-row : (e : ℕ) (ss : List ℕ) → Under (suc e) (row e ss [])
-under-row e [] = tt
-under-row e (s ∷ ss) = (omega arith, under-row e ss)
+under_more e bs h = All-weaker (λ b. b.exponent < e) (λ b. b.exponent < suc e) (λ b q. omega arith) bs h
 
 row-append : (e : ℕ) (ss : List ℕ) (older : List Entry) → row e ss older ≡ row e ss [] ++ older
 row-append e [] older = refl
@@ -37,18 +29,11 @@ many_under x e h (b ∷ pre) bs u = omega (arith, one_other b.exponent x (λ q. 
 idle : (n l e : ℕ) (bs : List Entry) → ((x : ℕ) → e ≤ x → how_many x bs ≤ l + 1) → merge_up n l e bs ≡ bs
 idle zero l e bs h = refl
 idle (suc n) l e bs h =
-    let off : cond (eqb (how_many e bs) (l + 2)) (merge_at e bs) bs ≡ bs =
-    cond-false (eqb (how_many e bs) (l + 2)) (merge_at e bs) bs (ne_eqb (how_many e bs) (l + 2) (λ q. omega (arith, h e (omega arith)))) in
-    rw off (idle n l (suc e) bs (λ x le. h x (omega arith)))
+    rw (ne_eqb (how_many e bs) (l + 2) (λ q. omega (arith, h e (omega arith)))) (idle n l (suc e) bs (λ x le. h x (omega arith)))
 
 merge_under : (e : ℕ) (pre bs : List Entry) → Under e pre → merge_at e (pre ++ bs) ≡ pre ++ merge_at e bs
 merge_under e [] bs u = refl
-merge_under e (b ∷ pre) bs u =
-    cond-false (eqb b.exponent e && eqb (how_many e (pre ++ bs)) 1)
-    (record { stamp = max b.stamp (get_or (stamps (pre ++ bs)) 0 0); exponent = suc e } ∷ drop 1 (pre ++ bs))
-    (b ∷ merge_at e (pre ++ bs))
-    (and_left (eqb b.exponent e) (eqb (how_many e (pre ++ bs)) 1) (ne_eqb b.exponent e (λ q. omega (arith, u.0))))
-    ∙ ap {B = List Entry} (λ r. b ∷ r) (merge_under e pre bs u.1)
+merge_under e (b ∷ pre) bs u = rw (ne_eqb b.exponent e (λ q. omega (arith, u.0)), merge_under e pre bs u.1) refl
 
 merge_row : (l e : ℕ) (ss : List ℕ) (older : List Entry) → length ss ≡ suc (suc l) → how_many e older ≡ 0 → Falling (stamps (row e ss older))
     → merge_at e (row e ss older) ≡ row e (take l ss) (record { stamp = get_or ss l 0; exponent = suc e } ∷ older)
@@ -56,20 +41,14 @@ merge_row l e [] older h z f = absurd (omega arith)
 merge_row zero e (x ∷ []) older h z f = absurd (omega arith)
 merge_row zero e (x ∷ (y ∷ [])) older h z f =
     let later : max x y ≡ x = omega (arith, f.0.0) in
-    cond-true (eqb e e && eqb (how_many e (row e (y ∷ []) older)) 1)
-    (record { stamp = max x y; exponent = suc e } ∷ older)
-    (record { stamp = x; exponent = e } ∷ merge_at e (row e (y ∷ []) older))
-    (and_from (eqb e e) (eqb (how_many e (row e (y ∷ []) older)) 1) (eq-eqb e e refl)
-    (eq-eqb (how_many e (row e (y ∷ []) older)) 1 (omega (arith, many_same e (y ∷ []) older))))
-    ∙ ap {B = List Entry} (λ m. record { stamp = m; exponent = suc e } ∷ older) later
+    rw (eq-eqb e e refl, z, later) refl
 merge_row zero e (x ∷ (y ∷ (w ∷ ss))) older h z f = absurd (omega arith)
 merge_row (suc l) e (x ∷ ss) older h z f =
-    cond-false (eqb e e && eqb (how_many e (row e ss older)) 1)
-    (record { stamp = max x (get_or (stamps (row e ss older)) 0 0); exponent = suc e } ∷ drop 1 (row e ss older))
-    (record { stamp = x; exponent = e } ∷ merge_at e (row e ss older))
-    (and_right (eqb e e) (eqb (how_many e (row e ss older)) 1)
-    (ne_eqb (how_many e (row e ss older)) 1 (λ q. omega (arith, many_same e ss older))))
-    ∙ ap {B = List Entry} (λ r. record { stamp = x; exponent = e } ∷ r) (merge_row l e ss older (omega arith) z f.1)
+    rw (
+      eq-eqb e e refl,
+      ne_eqb (how_many e (row e ss older)) 1 (λ q. omega (arith, many_same e ss older)),
+      merge_row l e ss older (omega arith) z f.1,
+    ) refl
 
 below_row : (s e : ℕ) (ss : List ℕ) (older : List Entry) → Below s (stamps (row e ss older)) → Below s (stamps older)
 below_row s e [] older b = b
@@ -95,8 +74,7 @@ carry_fits l n e s ss rest pre u c h = idle n l e (pre ++ row e (s ∷ ss) (flat
   where
     each : (x : ℕ) → e ≤ x → (e ≡ x) ⊎ (e ≡ x → ⊥) → how_many x (pre ++ row e (s ∷ ss) (flat (suc e) rest)) ≤ l + 1
     each x le (inl q) =
-        subst (λ (y : ℕ). how_many y (pre ++ row e (s ∷ ss) (flat (suc e) rest)) ≤ l + 1) q
-        (omega (
+        rw (← q) (omega (
           arith,
           many_under e e (omega arith) pre (row e (s ∷ ss) (flat (suc e) rest)) u,
           many_same e (s ∷ ss) (flat (suc e) rest),
@@ -120,20 +98,20 @@ carry_full l n e s ss rest ih pre u c h fuel f =
     let here : List Entry = pre ++ row e (s ∷ ss) (flat (suc e) rest) in
     let up : Entry = record { stamp = get_or (s ∷ ss) l 0; exponent = suc e } in
     let stays : List Entry = row e (take l (s ∷ ss)) [] in
-    let on : cond (eqb (how_many e here) (l + 2)) (merge_at e here) here ≡ merge_at e here =
-    cond-true (eqb (how_many e here) (l + 2)) (merge_at e here) here
-    (eq-eqb (how_many e here) (l + 2)
-    (omega (arith, many_under e e (omega arith) pre (row e (s ∷ ss) older) u, many_same e (s ∷ ss) older, many_low e (suc e) (omega arith) rest))) in
+    let many : how_many e here ≡ l + 2 =
+    omega (arith, many_under e e (omega arith) pre (row e (s ∷ ss) older) u, many_same e (s ∷ ss) older, many_low e (suc e) (omega arith) rest) in
     let merged : merge_at e here ≡ (pre ++ stays) ++ (up ∷ older) =
-    merge_under e pre (row e (s ∷ ss) older) u
-    ∙ ap (λ r. pre ++ r) (merge_row l e (s ∷ ss) older (omega arith) (many_low e (suc e) (omega arith) rest) f
-    ∙ row-append e (take l (s ∷ ss)) (up ∷ older))
-    ∙ sym (append_assoc pre stays (up ∷ older)) in
-    ap (merge_up n l (suc e)) (on ∙ merged)
-    ∙ ih (pre ++ stays) (under-append (suc e) pre stays (under_more e pre u) (under-row e (take l (s ∷ ss)))) c fuel
+    rw (
+      merge_under e pre (row e (s ∷ ss) older) u,
+      merge_row l e (s ∷ ss) older (omega arith) (many_low e (suc e) (omega arith) rest) f,
+      row-append e (take l (s ∷ ss)) (up ∷ older),
+      append_assoc pre stays (up ∷ older),
+    ) refl in
+    rw (eq-eqb (how_many e here) (l + 2) many, merged)
+    (ih (pre ++ stays) (All-append (λ b. b.exponent < suc e) pre stays (under_more e pre u) (row_small (suc e) e (omega arith) (take l (s ∷ ss)) [] tt)) c fuel
     (fall_carry l e (s ∷ ss) older (omega arith) f)
     ∙ append_assoc pre stays (flat (suc e) (push l (get_or (s ∷ ss) l 0) rest))
-    ∙ ap (λ r. pre ++ r) (sym (row-append e (take l (s ∷ ss)) (flat (suc e) (push l (get_or (s ∷ ss) l 0) rest))))
+    ∙ ap (λ r. pre ++ r) (sym (row-append e (take l (s ∷ ss)) (flat (suc e) (push l (get_or (s ∷ ss) l 0) rest)))))
 
 pub carried : (l n e s : ℕ) (levels : List (List ℕ)) → Carried l n e s levels
 carried l zero e s levels = λ pre u c fuel f. absurd (omega arith)

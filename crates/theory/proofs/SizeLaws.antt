@@ -1,5 +1,5 @@
 -- The sum of the sizes, by levels: how it grows, and how it bounds the number of levels.
-use Rattle.std.proofs.Common.{◌≡◌, ℕ, zero, suc, ◌+◌, ◌-◌, ◌*◌, ◌^◌, ◌<◌, ◌≤◌, leb, ◌⊎◌, List, [], ◌∷◌, length, get_or, take, refl, ap, ◌∙◌, subst, inl, inr, mul-le-mul_right, mul-le-mul_left, arith, pow_pos, pow_mono}
+use Rattle.std.proofs.Common.{◌≡◌, ℕ, zero, suc, ◌+◌, ◌-◌, ◌*◌, ◌^◌, ◌<◌, ◌≤◌, leb, ◌⊎◌, List, [], ◌∷◌, length, get_or, take, refl, ap, ◌∙◌, inl, inr, mul-le-mul_right, mul-le-mul_left, arith, pow_pos, pow_mono}
 use native.Mathlib.Nat.{two-pow-succ}
 use Rattle.std.proofs.lemmas.List.{length-take-le}
 use Rattle.std.proofs.lemmas.Bool.{cases_lt, cond_both, leb-false}
@@ -22,11 +22,9 @@ total-push l e s (ss ∷ rest) c =
     let n : length ss ≡ suc l = omega (arith, leb-false (length ss) l f, c.1) in
     let k : length (take l (s ∷ ss)) ≡ l = length-take-le l (s ∷ ss) (omega arith) in
     let ih = total-push l (suc e) (get_or (s ∷ ss) l 0) rest c.3 in
-    let a = total-row e (take l (s ∷ ss)) (flat (suc e) (push l (get_or (s ∷ ss) l 0) rest)) in
-    let b = total-row e ss (flat (suc e) rest) in
-    let a' : length (take l (s ∷ ss)) * 2 ^ e ≡ l * 2 ^ e = ap (λ (z : ℕ). z * 2 ^ e) k in
-    let b' : length ss * 2 ^ e ≡ suc l * 2 ^ e = ap (λ (z : ℕ). z * 2 ^ e) n in
-    omega (arith, a, b, a', b', ih, two-pow-succ e))
+    let a = rw k at (total-row e (take l (s ∷ ss)) (flat (suc e) (push l (get_or (s ∷ ss) l 0) rest))) in
+    let b = rw n at (total-row e ss (flat (suc e) rest)) in
+    omega (arith, a, b, ih, two-pow-succ e))
 
 pub all_total : (l : ℕ) → 1 ≤ l → (new : List ℕ) (levels : List (List ℕ)) → Canonical l levels
     → total (flat 0 (push_all l new levels)) ≡ length new + total (flat 0 levels)
@@ -52,9 +50,10 @@ few_levels l r (ss ∷ rest) c h = go (cases_lt (length rest) (r + 1))
   where
     go : (length rest < r + 1) ⊎ (r + 1 ≤ length rest) → suc (length rest) ≤ r + 1
     go (inl lt) = lt
-    go (inr le) = absurd (big (2 ^ (r + 1)) (2 ^ length rest) (pow_pos (r + 1)) (pow_mono le) (total (flat 0 (ss ∷ rest))) h
-        (let z : 0 + length rest ≡ length rest = omega arith in let q = low_total l 0 ss rest c in subst
-        (λ (k : ℕ). (l + 1) * 2 ^ k ≤ total (flat 0 (ss ∷ rest)) + l) z (omega (arith, q))))
+    go (inr le) =
+        let z : 0 + length rest ≡ length rest = omega arith in
+        let low = rw z at (low_total l 0 ss rest c) in
+        absurd (big (2 ^ (r + 1)) (2 ^ length rest) (pow_pos (r + 1)) (pow_mono le) (total (flat 0 (ss ∷ rest))) h (omega (arith, low)))
       where
         big : (p q : ℕ) → 1 ≤ p → p ≤ q → (n : ℕ) → n ≤ (l + 1) * (p - 1) → (l + 1) * q ≤ n + l → ⊥
         big zero q a b n x y = omega arith

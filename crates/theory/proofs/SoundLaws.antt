@@ -1,6 +1,7 @@
 -- Formed and sound buckets as tests and as facts.
-use Rattle.std.proofs.Common.{◌≡◌, ℕ, zero, suc, ◌+◌, ◌<◌, ◌≤◌, Bool, true, ◌&&◌, eqb, ltb, leb, ◌⊎◌, List, [], ◌∷◌, refl, ap, ◌∙◌, inl, inr, arith}
-use Rattle.std.proofs.lemmas.Bool.{and_from, and_parts, cases_eq, cases_lt, eq-eqb, eqb-true, le-leb, leb-true, lt-ltb, ltb-true}
+use Rattle.std.proofs.Common.{◌≡◌, ℕ, zero, suc, ◌+◌, ◌<◌, ◌≤◌, Bool, true, ◌&&◌, eqb, ltb, leb, ◌⊎◌, List, [], ◌∷◌, refl, ap, inl, inr, arith}
+use Rattle.std.proofs.lemmas.Bool.{and_from, and_parts, cases_lt, eq-eqb, eqb-true, le-leb, leb-true, lt-ltb, ltb-true}
+use Rattle.std.proofs.ByRecursion.{All-weaker}
 use Rattle.std.specs.List.{AllByRecursion}
 use Rattle.theory.proofs.FormLaws.{one_other}
 use Rattle.theory.proofs.Views.{Begins, Below, Formed, Steps}
@@ -21,11 +22,8 @@ below_says : (p : ℕ → Bool) (n : ℕ) → every_below n p ≡ true → (e : 
 below_says p zero h e lt = absurd (omega arith)
 below_says p (suc n) h e lt =
     let w = and_parts (p n) (every_below n p) h in
-    here w.0 (λ lt'. below_says p n w.1 e lt') (cases_eq e n)
-  where
-    here : p n ≡ true → (e < n → p e ≡ true) → (e ≡ n) ⊎ (e ≡ n → ⊥) → p e ≡ true
-    here w f (inl q) = ap p q ∙ w
-    here w f (inr q) = f (omega arith)
+    let ih : e < n → p e ≡ true = below_says p n w.1 e in
+    grind arith
 
 below_from : (p : ℕ → Bool) (n : ℕ) → ((e : ℕ) → e < n → p e ≡ true) → every_below n p ≡ true
 below_from p zero h = refl
@@ -33,8 +31,7 @@ below_from p (suc n) h = and_from (p n) (every_below n p) (h n (omega arith)) (b
 
 -- stamps that never rise
 pub below_weaker : (s r : ℕ) → s ≤ r → (us : List ℕ) → Below s us → Below r us
-below_weaker s r h [] b = tt
-below_weaker s r h (u ∷ us) b = (omega (arith, b.0), below_weaker s r h us b.1)
+below_weaker s r h us b = All-weaker (λ u. u ≤ s) (λ u. u ≤ r) (λ u q. omega arith) us b
 
 pub rise_says : (s : ℕ) (bs : List Entry) → never_rise s bs ≡ true → Below s (stamps bs) × Falling (stamps bs)
 rise_says s [] h = (tt, tt)
@@ -81,11 +78,11 @@ none_above e x (b ∷ bs) h lt =
     top_from_lem e [] h = omega arith
     top_from_lem e (b ∷ bs) h = omega (arith, h.0, top_from_lem b.exponent bs h.2)
 
-few_above : (l x : ℕ) (bs : List Entry) → Begins bs → ((e : ℕ) → e < suc (top bs) → how_many e bs ≤ l + 1) → (x ≤ top bs) ⊎ (top bs < x)
+few_above : (l x : ℕ) (bs : List Entry) → Begins bs → ((e : ℕ) → e < suc (top bs) → how_many e bs ≤ l + 1) → (top bs < x) ⊎ (x ≤ top bs)
     → how_many x bs ≤ l + 1
-few_above l x bs h f (inl le) = f x (omega arith)
-few_above l x [] h f (inr lt) = omega arith
-few_above l x (b ∷ bs) h f (inr lt) =
+few_above l x bs h f (inr le) = f x (omega arith)
+few_above l x [] h f (inl lt) = omega arith
+few_above l x (b ∷ bs) h f (inl lt) =
     let z : b.exponent ≡ 0 = h.0 in
     let steps : Steps 0 bs = h.1 in
     let same : top_from b.exponent bs ≡ top_from 0 bs = ap (λ (e : ℕ). top_from e bs) z in
@@ -102,17 +99,10 @@ formed_says l t bs h =
         begins = begins;
         enough = λ e lt. leb-true l (how_many e bs) (below_says (λ e. leb l (how_many e bs)) (top bs) u.0 e lt);
         few = λ e. few_above l e bs begins (λ x lt. leb-true (how_many x bs) (l + 1)
-            (below_says (λ e. leb (how_many e bs) (l + 1)) (suc (top bs)) u.1 x lt)) (cases_le e (top bs));
+            (below_says (λ e. leb (how_many e bs) (l + 1)) (suc (top bs)) u.1 x lt)) (cases_lt (top bs) e);
       },
       (rise_says t bs w.0).0,
     )
-  where
-    cases_le : (x y : ℕ) → (x ≤ y) ⊎ (y < x)
-    cases_le x y = swap (cases_lt y x)
-      where
-        swap : (y < x) ⊎ (x ≤ y) → (x ≤ y) ⊎ (y < x)
-        swap (inl a) = inr a
-        swap (inr a) = inl a
 
 pub formed_from : (l t : ℕ) (bs : List Entry) → Formed l bs → Below t (stamps bs) → formed l t bs ≡ true
 formed_from l t bs f b =

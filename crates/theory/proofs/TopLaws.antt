@@ -1,5 +1,6 @@
 -- How many buckets there are, and how large the oldest is.
 use Rattle.std.proofs.Common.{◌≡◌, ℕ, zero, suc, ◌+◌, ◌-◌, ◌*◌, ◌^◌, ◌<◌, ◌≤◌, List, [], ◌∷◌, length, refl, ◌∙◌, arith, pow_pos}
+use Rattle.std.specs.List.{AllByRecursion}
 use Rattle.theory.proofs.BracketLaws.{Wide, wide_flat}
 use Rattle.theory.proofs.Views.{Stands}
 use Rattle.theory.specs.Buckets.{size, top, top_from}
@@ -13,6 +14,10 @@ length-row e (s ∷ ss) older = omega (arith, length-row e ss older)
 pub length-flat : (l e : ℕ) (levels : List (List ℕ)) → Canonical l levels → length (flat e levels) ≤ (l + 1) * length levels
 length-flat l e [] c = omega arith
 length-flat l e (ss ∷ rest) c = omega (arith, length-row e ss (flat (suc e) rest), length-flat l (suc e) rest c.3)
+
+pub row_small : (m e : ℕ) → e < m → (ss : List ℕ) (older : List Entry) → AllByRecursion (λ x. x.exponent < m) older → AllByRecursion (λ x. x.exponent < m) (row e ss older)
+row_small m e h [] older o = o
+row_small m e h (s ∷ ss) older o = (h, row_small m e h ss older o)
 
 top-row : (e : ℕ) (ss : List ℕ) (older : List Entry) → top_from e (row e ss older) ≡ top_from e older
 top-row e [] older = refl

@@ -4,46 +4,59 @@
 //! end in what was read are printed before more is read, in memory that does not grow with the input.
 #![tactic(auto)]
 
-mod pieces;
-mod reports;
+ghost use Rattle.std.specs.Prelude.{◌≡◌, ℕ, ◌-◌, ◌^◌, ◌<◌, List, Some, length, OnOk};
+ghost use Rattle.std.specs.Io.KnownBytes.{Appends};
+ghost use Rattle.weigh.specs.Reports.{no_lines};
+ghost use Rattle.weigh.specs.Streams.{printed_of};
 
-use lines::HeldLine;
-use pieces::{KEPT, finish, take_in};
-use reports::Tally;
+mod reports;
+mod weigher;
+
 use std::alloc::Global;
-use std::io::{Read, Write};
+use std::io::{self, Read, Write};
+use weigher::Weigher;
 
 /// How much is read at a time.
 const CHUNK: usize = 65536;
 
+/// Weighs the lines that `input` has left. Where its bytes are known, so is what is printed of them.
 fn weigh<R: Read, W: Write>(
     heap: Global,
     input: &mut R,
     output: &mut W,
     buffer: &mut [u8],
-) -> anyhow::Result<()> {
-    let mut line = HeldLine::<KEPT>::new();
-    let mut tally = Tally::new();
+) -> anyhow::Result<()>
+    ensures printed { 0 < length buffer.old → (stream : List ℕ) → R.remaining input.old ≡ Some stream → length stream < 2 ^ 64 - 1 →
+        OnOk result (Appends (W.contents output.old) (W.contents output.new) (printed_of no_lines stream)) }
+{
+    let mut weigher = Weigher::new();
     let mut out = String::new(heap);
     for _ in 0..u64::MAX {
         let count = input.read(buffer)?;
         if count == 0 {
             break;
         }
-        take_in(&mut line, &mut tally, &mut out, &buffer[0..count])?;
-        output.write_all(out.as_bytes())?;
-        output.flush()?;
+        weigher.take_in(&buffer[..count], &mut out)?;
+        print(output, out.as_str())?;
         out.clear();
     }
-    finish(&mut line, &mut tally, &mut out)?;
-    output.write_all(out.as_bytes())?;
-    output.flush()?;
+    weigher.finish(&mut out)?;
+    print(output, out.as_str())?;
     Ok(())
+}
+
+/// Writes `text`, and keeps none of it back.
+fn print<W: Write>(output: &mut W, text: &str) -> io::Result<()>
+    ensures { OnOk result (Appends (W.contents output.old) (W.contents output.new) text.now) }
+{
+    output.write_all(text.as_bytes())?;
+    output.flush()
 }
 
 fn main(rt: HostRuntime) -> anyhow::Result<()> {
     let mut input = rt.stdin();
     let mut output = rt.stdout();
+    // An array lent to `read`, which says how much of it was filled: no heap, and the same memory for each chunk.
     let mut buffer = [0u8; CHUNK];
     weigh(rt.alloc(), &mut input, &mut output, &mut buffer)
 }

@@ -1,73 +1,90 @@
 //! What is said of a line, and of all lines together.
-ghost use Rattle.std.specs.Prelude.{◌≡◌, ◌++◌, string_bytes, OnOk};
-ghost use Rattle.weigh.specs.Reports.{line_weights, noted, next_line, weights_text, refusal_text, report_text, summary_text};
+ghost use Rattle.std.specs.Prelude.{◌≡◌};
+ghost use Rattle.weigh.specs.Reports.{line_weights, no_lines, summed, noted, next_line};
 
 use std::fmt;
-use text::{BlankCounting, BlankFree, TextFault, weigh_text};
+use text::{BlankCounting, BlankFree, Refusal, TextFault, weigh_text};
 
-/// The weights of a line by the blank-counting and by the blank-free rule.
-#[derive(Clone, Copy)]
+/// The weights of a line by the blank-counting and by the blank-free rule, or the sums of these.
+#[derive(Clone, Copy, Default)]
 pub struct Weights {
     counting: u64,
     free: u64,
 }
 
-/// What has been weighed so far. A sum that comes to 2^64 - 1 stays there.
-#[derive(Clone, Copy)]
-pub struct Tally {
-    weighed: u64,
-    counting: u64,
-    free: u64,
-    refused: u64,
-}
+impl Weights {
+    /// The weights of a line, or why it is refused.
+    pub fn of(line: &[u8]) -> Result<Weights, TextFault>
+        ensures { result ≡ line_weights line.now }
+    {
+        let counting = weigh_text(&BlankCounting, line)?;
+        let free = weigh_text(&BlankFree, line)?;
+        Ok(Weights { counting, free })
+    }
 
-/// The weights of a line, or why it is refused.
-pub fn weigh_line(line: &[u8]) -> Result<Weights, TextFault>
-    ensures { result ≡ line_weights line.now }
-{
-    let counting = weigh_text(&BlankCounting, line)?;
-    let free = weigh_text(&BlankFree, line)?;
-    Ok(Weights { counting, free })
-}
-
-/// Prints what the line `number` weighs, or why it is refused.
-pub fn report(out: &mut String, number: u64, outcome: Result<Weights, TextFault>) -> fmt::Result
-    ensures { OnOk result (string_bytes out.new ≡ string_bytes out.old ++ report_text number outcome) }
-{
-    match outcome {
-        Ok(weights) => report_weights(out, number, weights),
-        Err(fault) => report_refusal(out, number, fault),
+    /// The sums with these weights more. A sum that comes to 2^64 - 1 stays there.
+    pub fn saturating_add(self, more: Weights) -> Weights
+        ensures { result ≡ summed self more }
+    {
+        Weights {
+            counting: self.counting.saturating_add(more.counting),
+            free: self.free.saturating_add(more.free),
+        }
     }
 }
 
-fn report_weights(out: &mut String, number: u64, weights: Weights) -> fmt::Result
-    ensures { OnOk result (string_bytes out.new ≡ string_bytes out.old ++ weights_text number weights) }
-{
-    let Weights { counting, free } = weights;
-    writeln!(out, "{number}: {counting} with blanks, {free} without")?;
-    Ok(())
+impl fmt::Display for Weights {
+    ghost use Rattle.std.specs.Prelude.{Some};
+    ghost use Rattle.weigh.specs.Reports.{weights_shown};
+
+    ghost output = { λ weights. Some (weights_shown weights) };
+
+    fn fmt<W: fmt::Write>(&self, f: &mut fmt::Formatter<W>) -> fmt::Result {
+        let Weights { counting, free } = *self;
+        write!(f, "{counting} with blanks, {free} without")
+    }
 }
 
-fn report_refusal(out: &mut String, number: u64, fault: TextFault) -> fmt::Result
-    ensures { OnOk result (string_bytes out.new ≡ string_bytes out.old ++ refusal_text number fault) }
-{
-    let refusal = fault.number();
-    let place = fault.place();
-    writeln!(out, "{number}: refused {refusal} at {place}")?;
-    Ok(())
+/// What the line `number` weighs, or why it is refused.
+#[derive(Clone, Copy)]
+pub struct Report {
+    pub number: u64,
+    pub outcome: Result<Weights, TextFault>,
+}
+
+impl fmt::Display for Report {
+    ghost use Rattle.std.specs.Prelude.{Some};
+    ghost use Rattle.weigh.specs.Reports.{report_shown};
+
+    ghost output = { λ report. Some (report_shown report.number report.outcome) };
+
+    fn fmt<W: fmt::Write>(&self, f: &mut fmt::Formatter<W>) -> fmt::Result {
+        let number = self.number;
+        match self.outcome {
+            Ok(weights) => write!(f, "{number}: {weights}"),
+            Err(fault) => {
+                let refusal = fault.number();
+                let place = fault.place();
+                write!(f, "{number}: refused {refusal} at {place}")
+            }
+        }
+    }
+}
+
+/// What has been weighed so far. A number that comes to 2^64 - 1 stays there.
+#[derive(Clone, Copy, Default)]
+pub struct Tally {
+    weighed: u64,
+    sums: Weights,
+    refused: u64,
 }
 
 impl Tally {
     /// A tally of no lines.
     pub fn new() -> Tally
-        ensures { result ≡ record { weighed = 0; counting = 0; free = 0; refused = 0 } }
+        ensures { result ≡ no_lines }
     {
-        Tally {
-            weighed: 0,
-            counting: 0,
-            free: 0,
-            refused: 0,
-        }
+        Tally::default()
     }
 
     /// Notes one line more.
@@ -77,8 +94,7 @@ impl Tally {
         match outcome {
             Ok(weights) => {
                 self.weighed = self.weighed.saturating_add(1);
-                self.counting = self.counting.saturating_add(weights.counting);
-                self.free = self.free.saturating_add(weights.free);
+                self.sums = self.sums.saturating_add(weights);
             }
             Err(_) => self.refused = self.refused.saturating_add(1),
         }
@@ -90,21 +106,20 @@ impl Tally {
     {
         self.weighed.saturating_add(self.refused).saturating_add(1)
     }
+}
 
-    /// Prints what has been weighed.
-    pub fn summary(&self, out: &mut String) -> fmt::Result
-        ensures { OnOk result (string_bytes out.new ≡ string_bytes out.old ++ summary_text self.now) }
-    {
+impl fmt::Display for Tally {
+    ghost use Rattle.std.specs.Prelude.{Some};
+    ghost use Rattle.weigh.specs.Reports.{summary_shown};
+
+    ghost output = { λ tally. Some (summary_shown tally) };
+
+    fn fmt<W: fmt::Write>(&self, f: &mut fmt::Formatter<W>) -> fmt::Result {
         let Tally {
             weighed,
-            counting,
-            free,
+            sums,
             refused,
         } = *self;
-        writeln!(
-            out,
-            "weighed {weighed} lines: {counting} with blanks, {free} without; {refused} refused"
-        )?;
-        Ok(())
+        write!(f, "weighed {weighed} lines: {sums}; {refused} refused")
     }
 }

@@ -1,101 +1,65 @@
-use Rattle.std.proofs.Common.{length, ap, arith}
+use Rattle.std.proofs.Common.{ℕ, ◌+◌, ◌-◌, List, ◌++◌, length, sym, ap, ◌∙◌, arith}
 use Rattle.histogram.proofs.LaidLaws.{length-newer_is}
-use Rattle.histogram.proofs.RaiseLaws.{found, head_few, held_few, its_own, next_done, next_less, next_ready, next_room, raise_fits, raise_gathered, raise_none, raise_some, rest_of, short_up}
+use Rattle.histogram.proofs.RaiseLaws.{found, none_moved, own_few, rest_of, row_done, row_fits, some_held, up_inside, up_less, up_ready, up_short}
+use Rattle.theory.specs.Levels.{newer}
 use Rattle.histogram.proofs.inserting.+raise.Goals as goal
-
-pub move_to-requires : goal.move_to-requires
-move_to-requires t c =
-    record {
-      places = (
-        c.requires.places.0,
-        (
-          c.requires.places.1,
-          raise_fits c.requires.ready.1 c.if-turn-olds-eq0.true c.requires.places.0
-              c.requires.places.1,
-        ),
-      );
-    }
-
-pub halve-came-requires : goal.halve-came-requires
-halve-came-requires t c = record {
-  room = omega (arith, length-newer_is c.args.olds.now, c.requires.sizes);
-  short = omega (arith, c.requires.sizes);
-}
-
-pub gather-c-requires : goal.gather-c-requires
-gather-c-requires t c =
-    let r = c.requires.ready.1 in
-    record {
-      places = c.requires.places;
-      room = omega (
-        arith,
-        ap length (its_own r),
-        head_few c.args.turn.half c.requires.ready.0 r.canon,
-        length-newer_is
-            c.args.olds.now,
-        c.requires.sizes,
-        c.halve-came.ensures.many,
-        c.halve-came.auto.held,
-      );
-    }
-
-pub overflow_add-turn-2 : goal.overflow_add-turn-2
-overflow_add-turn-2 t c =
-    let r = c.requires.ready.1 in
-    let g = raise_gathered r c.halve-came.result c.gather-c.result c.halve-came.new.held c.gather-c.new.held
-    c.halve-came.ensures.holds c.halve-came.ensures.many c.gather-c.ensures.holds c.gather-c.ensures.many in
-    omega (arith, g.1, held_few r c.requires.sizes.1.1.1, c.requires.sizes)
 
 pub returns-then-turn-olds-eq0 : goal.returns-then-turn-olds-eq0
 returns-then-turn-olds-eq0 t c = record {
   raised = λ levels r.
-      raise_none r c.if-turn-olds-eq0.true c.move_to.new.stretch c.requires.places.0 c.requires.places.1 c.move_to.ensures.moved;
+      none_moved r c.if-turn-olds-eq0.true c.copy_within.new.self c.requires.places.0 c.requires.places.1 c.copy_within.ensures.after;
 }
 
-pub slice_bounds-raise-end : goal.slice_bounds-raise-end
-slice_bounds-raise-end t c =
-    let r = c.requires.ready.1 in
-    let g = raise_gathered r c.halve-came.result c.gather-c.result c.halve-came.new.held c.gather-c.new.held
-    c.halve-came.ensures.holds c.halve-came.ensures.many c.gather-c.ensures.holds c.gather-c.ensures.many in
-    omega (arith, g.1, held_few r c.requires.sizes.1.1.1, c.requires.sizes, c.halve-came.auto.held, c.gather-c.auto.held)
+pub gather_newer-requires : goal.gather_newer-requires
+gather_newer-requires t c = record { room = omega (arith, ap length c.new-held.ensures, length-newer_is c.args.olds.now, c.requires.half, c.requires.olds) }
+
+pub gather_own-requires : goal.gather_own-requires
+gather_own-requires t c = record {
+  room = omega (
+    arith,
+    own_few c.requires.ready.1,
+    ap length (c.gather_newer.ensures.holds ∙ ap (λ (z : List ℕ). z ++ newer c.args.olds.now) c.new-held.ensures),
+    length-newer_is c.args.olds.now,
+    c.requires.half,
+    c.requires.olds,
+  );
+}
 
 pub raise-end-requires : goal.raise-end-requires
 raise-end-requires t c =
     let r = c.requires.ready.1 in
-    let some = raise_some r c.if-turn-olds-eq0.false in
-    let k = found r c.halve-came.result c.gather-c.result c.stays-stay.result c.saturating_sub-spare.result
-    c.saturating_sub-old.result
-    c.halve-came.new.held c.gather-c.new.held c.halve-came.ensures.holds c.halve-came.ensures.many
-    c.gather-c.ensures.holds c.gather-c.ensures.many c.stays-stay.ensures.value c.saturating_sub-spare.ensures
-    c.saturating_sub-old.ensures in
-    let less = next_less r some k c.gather-c.ensures.within in
-    let sizes = c.requires.sizes in (
+    let some = some_held r c.if-turn-olds-eq0.false in
+    let k = found r c.new-held.ensures c.gather_newer.ensures.holds c.len-came.ensures.value c.gather_own.ensures.holds c.len.ensures.value
+    c.len-2.ensures.value c.deref.ensures.0 c.stays-stay.ensures.value c.min-new.ensures in
+    let less = up_less r some k in (
       rw c.decreases at less,
       (
-        (sizes.0, (sizes.1.0, (omega (arith, sizes), short_up r some k sizes.1.1.1))),
-        ((c.gather-c.ensures.within, c.requires.places.1), (rest_of c.requires.ready.0, next_ready r some k)),
+        c.requires.half,
+        (
+          omega (arith, c.requires.new),
+          (
+            up_short r some k c.requires.olds,
+            ((up_inside r some k c.requires.places.0, c.requires.places.1), (rest_of c.requires.ready.0, up_ready r some k)),
+          ),
+        ),
       ),
     )
 
-pub put-requires : goal.put-requires
-put-requires t c =
+pub slice_bounds-put-end : goal.slice_bounds-put-end
+slice_bounds-put-end t c =
     let r = c.requires.ready.1 in
-    let k = found r c.halve-came.result c.gather-c.result c.stays-stay.result c.saturating_sub-spare.result
-    c.saturating_sub-old.result
-    c.halve-came.new.held c.gather-c.new.held c.halve-came.ensures.holds c.halve-came.ensures.many
-    c.gather-c.ensures.holds c.gather-c.ensures.many c.stays-stay.ensures.value c.saturating_sub-spare.ensures
-    c.saturating_sub-old.ensures in
-    record { room = next_room r (raise_some r c.if-turn-olds-eq0.false) k c.raise-end.new.stretch c.raise-end.auto.stretch }
+    let some = some_held r c.if-turn-olds-eq0.false in
+    let k = found r c.new-held.ensures c.gather_newer.ensures.holds c.len-came.ensures.value c.gather_own.ensures.holds c.len.ensures.value
+    c.len-2.ensures.value c.deref.ensures.0 c.stays-stay.ensures.value c.min-new.ensures in
+    omega (arith, row_fits r some k, c.raise-end.auto.stretch)
 
 pub returns : goal.returns
 returns t c = record {
   raised = λ levels r.
-      let some = raise_some r c.if-turn-olds-eq0.false in
-      let k = found r c.halve-came.result c.gather-c.result c.stays-stay.result c.saturating_sub-spare.result
-      c.saturating_sub-old.result
-      c.halve-came.new.held c.gather-c.new.held c.halve-came.ensures.holds c.halve-came.ensures.many
-      c.gather-c.ensures.holds c.gather-c.ensures.many c.stays-stay.ensures.value c.saturating_sub-spare.ensures
-      c.saturating_sub-old.ensures in
-      let above = c.raise-end.ensures.raised (rest_of levels) (next_ready r some k) in
-      next_done r some k c.raise-end.new.stretch c.put.new.stretch c.raise-end.result above.0 above.1 c.put.ensures.laid;
+      let some = some_held r c.if-turn-olds-eq0.false in
+      let k = found r c.new-held.ensures c.gather_newer.ensures.holds c.len-came.ensures.value c.gather_own.ensures.holds c.len.ensures.value
+      c.len-2.ensures.value c.deref.ensures.0 c.stays-stay.ensures.value c.min-new.ensures in
+      let above = c.raise-end.ensures.raised (rest_of levels) (up_ready r some k) in
+      row_done r some k c.raise-end.new.stretch c.put.new.place c.deref-2.result.now c.raise-end.result
+      (c.args.turn.write + c.stays-stay.result - c.args.turn.write) above.0 above.1 (c.deref-2.ensures.0 ∙ sym c.deref.ensures.0) c.put.ensures.filled (omega arith);
 }

@@ -1,21 +1,20 @@
-use Rattle.std.proofs.Common.{◌≡◌, ℕ, ◌+◌, List, map, length, replicate, sym, ap, ◌∙◌, arith}
-use Rattle.histogram.proofs.LaidLaws.{laid_after}
-use Rattle.histogram.specs.Raising.{laid, of_size}
-use Rattle.std.proofs.lemmas.List.{length-map, length-replicate, map-append}
-use Rattle.theory.specs.declared.entries.Entry.{Entry}
+use Rattle.std.proofs.Common.{◌++◌, length, drop, take, arith}
+use Rattle.histogram.proofs.LaidLaws.{row_filled, row_more}
+use Rattle.std.proofs.lemmas.List.{length-append, length-drop, length-take}
 use Rattle.histogram.proofs.inserting.put.Goals as goal
+
+pub loop-k-preserved : goal.loop-k-preserved
+loop-k-preserved c =
+    let place = c.args.place.now in
+    let after = drop c.args.new place in
+    row_more c.args.exponent c.args.new c.loop-k.k c.args.olds.now (c.fill.new.self ++ after) c.loop-k.place (omega arith)
+    (omega (arith, length-append c.fill.new.self after, length-drop c.args.new place, length-take c.args.new place, c.fill.ensures.len, c.requires.room))
+    c.loop-k.invariant
 
 pub returns : goal.returns
 returns c =
-    let o = c.args.write in
-    let e = c.args.e in
-    let new : List ℕ = replicate c.args.new c.args.tick in
-    let olds = c.args.olds.now in
-    let xs = c.args.stretch.now in
-    let n : o + c.args.new ≡ o + length (map (of_size e) new) = omega (arith, length-map new (of_size e), length-replicate c.args.new c.args.tick) in
+    let place = c.args.place.now in
     record {
-      laid = c.put_olds.ensures.laid
-          ∙ ap (λ (z : List Entry). laid (o + c.args.new) (map (of_size e) olds) z) c.put_new.ensures.laid
-          ∙ laid_after o (o + c.args.new) (map (of_size e) new) (map (of_size e) olds) xs n (omega arith)
-          ∙ ap (λ (z : List Entry). laid o z xs) (sym (map-append (of_size e) new olds));
+      filled = row_filled c.args.exponent c.args.tick c.args.new (length (take c.args.new place)) c.loop-k.k c.args.olds.now c.fill.new.self (drop c.args.new place) c.loop-k.place
+          (c.fill.ensures.after (λ y k. k)) (omega (arith, length-take c.args.new place)) (omega (arith, length-drop c.args.new place, c.requires.room)) (omega arith) c.loop-k.invariant;
     }

@@ -1,26 +1,41 @@
-use Rattle.std.proofs.Common.{arith}
-use Rattle.histogram.proofs.ZeroLaws.{zeros_else, zeros_more, zeros_then}
-use Rattle.std.proofs.lemmas.List.{take_all}
-use Rattle.theory.specs.Sound.{zero_entry}
+use Rattle.std.proofs.Common.{◌≡◌, ℕ, Bool, true, false, ◌&&◌, eqb, List, [], ◌∷◌, fold, refl, sym, ap, ◌∙◌, inl, inr, arith, rules}
+use lib.Bits.{bit_or}
+use Rattle.std.proofs.lemmas.Bool.{cases_eq, eq-eqb, ne_eqb}
+use Rattle.std.proofs.lemmas.Nat.{le_or_l}
+use Rattle.std.specs.Int.Bits.{or_zero_l}
+use Rattle.theory.specs.Sound.{every, is_zero}
+use Rattle.theory.specs.declared.entries.Entry.{Entry}
 use Rattle.histogram.proofs.levels.all_zero.Goals as goal
 
-pub loop-entry-preserved : goal.loop-entry-preserved
-loop-entry-preserved c =
-    zeros_more c.args.part.now c.loop-entry.entry-index zero_entry c.loop-entry.stamps c.loop-entry.exponents
-    (omega arith) c.loop-entry.invariant
+abbrev gathered : ℕ → Entry → ℕ
+gathered bits b = bit_or (bit_or bits b.stamp) b.exponent
 
-pub returns-then-stamps-eq0 : goal.returns-then-stamps-eq0
-returns-then-stamps-eq0 c =
-    let whole = take_all c.loop-entry.entry-index c.args.part.now (omega arith) in
-    record {
-      value = zeros_then c.args.part.now c.loop-entry.stamps c.loop-entry.exponents (rw whole at c.loop-entry.invariant)
-          c.if-stamps-eq0.true;
-    }
+-- a disjunction is 0 exactly when both are
+or_test : (a b : ℕ) → eqb (bit_or a b) 0 ≡ (eqb a 0 && eqb b 0)
+or_test a b =
+    elim (cases_eq a 0) [
+      | inl e ↦ ap (λ (x : ℕ). eqb (bit_or x b) 0) e ∙ ap (λ (x : ℕ). eqb x 0) (or_zero_l b)
+          ∙ ap (λ (x : Bool). x && eqb b 0) (sym (eq-eqb a 0 e))
+      | inr n ↦ ne_eqb (bit_or a b) 0 (λ z. n (omega (arith, le_or_l a b, z))) ∙ ap (λ (x : Bool). x && eqb b 0) (sym (ne_eqb a 0 n))
+    ]
 
-pub returns-else-stamps-eq0 : goal.returns-else-stamps-eq0
-returns-else-stamps-eq0 c =
-    let whole = take_all c.loop-entry.entry-index c.args.part.now (omega arith) in
-    record {
-      value = zeros_else c.args.part.now c.loop-entry.stamps c.loop-entry.exponents (rw whole at c.loop-entry.invariant)
-          c.if-stamps-eq0.false;
-    }
+bits_tell : (bits : ℕ) (xs : List Entry) → eqb (fold gathered bits xs) 0 ≡ (eqb bits 0 && every is_zero xs)
+bits_tell bits [] = and_true (eqb bits 0)
+  where
+    and_true : (p : Bool) → p ≡ (p && true)
+    and_true true = refl
+    and_true false = refl
+bits_tell bits (x ∷ xs) =
+    bits_tell (gathered bits x) xs
+    ∙ ap (λ (p : Bool). p && every is_zero xs) (or_test (bit_or bits x.stamp) x.exponent ∙ ap (λ (p : Bool). p && eqb x.exponent 0) (or_test bits x.stamp))
+    ∙ regroup (eqb bits 0) (eqb x.stamp 0) (eqb x.exponent 0) (every is_zero xs)
+  where
+    regroup : (p q r s : Bool) → (((p && q) && r) && s) ≡ (p && ((q && r) && s))
+    regroup true q r s = refl
+    regroup false q r s = refl
+
+pub returns : goal.returns
+returns c =
+    let xs = c.args.part.now in
+    let bits : c.fold-bits.result ≡ fold gathered 0 xs = search rules in
+    record { value = ap (λ (n : ℕ). eqb n 0) bits ∙ bits_tell 0 xs }

@@ -1,66 +1,40 @@
-use Rattle.std.proofs.Common.{◌≡◌, ◌+◌, ◌-◌, ◌<◌, ◌≤◌, length, get_or, take, sym, refl, ap, ◌∙◌, arith}
-use Rattle.histogram.proofs.SurveyLaws.{drop-last, front_within, total_less}
-use Rattle.histogram.specs.Surveys.{told}
-use Rattle.std.proofs.lemmas.Nat.{one_shl}
-use Rattle.std.proofs.ByRecursion.{All-get_or}
-use Rattle.std.proofs.lemmas.List.{length-take-le, take_all}
-use Rattle.std.proofs.lemmas.Bool.{ltb-true}
-use Rattle.theory.specs.Buckets.{total, within}
-use Rattle.theory.specs.Sound.{zero_entry}
+use Rattle.std.proofs.Common.{◌≡◌, ℕ, List, length, take, refl, option_copied, ap, ◌∙◌, arith, rules}
+use Rattle.histogram.proofs.SurveyLaws.{front_within, oldest_get, parted, total-sum}
+use Rattle.histogram.specs.Surveys.{holds, told}
+use Rattle.std.proofs.lemmas.List.Sorted.{IsPartitionPoint-from_clause}
+use Rattle.std.proofs.lemmas.List.Sums.{sum_by-take-drop}
+use Rattle.theory.specs.Buckets.{oldest, size, total, within}
+use Rattle.theory.specs.declared.entries.Entry.{Entry}
 use Rattle.histogram.proofs.surveys.windowed.Goals as goal
-use Rattle.histogram.proofs.surveys.windowed.Goals.{then-loop-n-test+else-not-in_window, else-loop-n-test}
 
-pub loop-n-init : goal.loop-n-init
-loop-n-init c =
-    let bs = c.args.buckets.now in
-    let all = take_all (length bs) bs (omega arith) in
-    (ap (within c.args.window c.args.at) all, c.requires.sum ∙ ap total (sym all), omega arith)
+told_is : (n s o : ℕ) (bs : List Entry) → n ≡ length bs → s ≡ total bs → o ≡ oldest 0 bs
+    → record { buckets = n; sizes = s; oldest = o } ≡ told bs
+told_is n s o bs p q r = rw (p, q, r) refl
 
-pub overflow_shl-left : goal.overflow_shl-left
-overflow_shl-left c = omega (arith, All-get_or (λ b. b.exponent ≤ 30) c.args.buckets.now (c.loop-n.n - 1) zero_entry (omega arith) c.requires.small)
+pub sum_of_sizes-requires-clause-fits : goal.sum_of_sizes-requires-clause-fits
+sum_of_sizes-requires-clause-fits c =
+    rw c.split_at.ensures.back
+    (omega (arith, total-sum c.args.buckets.now, sum_by-take-drop size c.args.buckets.now c.partition_point-kept.result))
 
-pub overflow_sub-left : goal.overflow_sub-left
-overflow_sub-left c =
-    let bs = c.args.buckets.now in
-    let small : (get_or bs (c.loop-n.n - 1) zero_entry).exponent ≤ 30 = All-get_or (λ b. b.exponent ≤ 30) bs (c.loop-n.n - 1) zero_entry
-    (omega arith) c.requires.small in
-    omega (
-      arith,
-      one_shl (get_or bs (c.loop-n.n - 1) zero_entry).exponent 64 (omega arith),
-      total_less bs c.loop-n.n zero_entry
-          (omega arith) (omega arith),
-      c.loop-n.invariant.1,
-    )
-
-pub loop-n-preserved : goal.loop-n-preserved
-loop-n-preserved c =
-    let bs = c.args.buckets.now in
-    let n = c.loop-n.n in
-    let small : (get_or bs (n - 1) zero_entry).exponent ≤ 30 = All-get_or (λ b. b.exponent ≤ 30) bs (n - 1) zero_entry (omega arith) c.requires.small in (
-      drop-last c.args.window c.args.at bs n zero_entry (omega arith) (omega arith) (sym c.if-not-in_window.ensures.value) ∙
-          c.loop-n.invariant.0,
-      omega (
-        arith,
-        one_shl (get_or bs (n - 1) zero_entry).exponent 64 (omega arith),
-        total_less bs n zero_entry (omega arith) (omega arith),
-        c.loop-n.invariant.1,
-      ),
-      omega arith,
-    )
+pub overflow_sub-result : goal.overflow_sub-result
+overflow_sub-result c =
+    let lost = rw c.split_at.ensures.back at c.sum_of_sizes.ensures.value in
+    omega (arith, lost, total-sum c.args.buckets.now, sum_by-take-drop size c.args.buckets.now c.partition_point-kept.result)
 
 pub returns : goal.returns
 returns c =
     let bs = c.args.buckets.now in
-    let n = c.loop-n.n in
-    let live : 0 < n → c.args.at < (get_or bs (n - 1) zero_entry).stamp + c.args.window =
-    elim c.loop-n-test.branch [
-      | then-loop-n-test+else-not-in_window w ↦ λ _. ltb-true c.args.at ((get_or bs (n - 1) zero_entry).stamp + c.args.window)
-          (sym w.if-not-in_window.ensures.value)
-      | else-loop-n-test w ↦ λ h. absurd (omega (arith, w.loop-n-test.false, h))
-    ] in
-    let front : take n bs ≡ within c.args.window c.args.at bs = sym
-    (front_within c.args.window c.args.at bs n zero_entry c.requires.falling c.loop-n.invariant.2 live) ∙ c.loop-n.invariant.0 in
-    let many : n ≡ length (take n bs) = sym (length-take-le n bs c.loop-n.invariant.2) in
-    let all : record { buckets = n; sizes = c.loop-n.left; oldest = c.oldest_size.result } ≡ told (take n bs) =
-    rw (← many, c.loop-n.invariant.1, c.oldest_size.ensures.value) refl in
-    record { value = all ∙ ap told front }
+    let w = c.args.window in
+    let n = c.partition_point-kept.result in
+    let point = IsPartitionPoint-from_clause (λ b. holds w b.stamp) _ _ c.partition_point-kept.ensures.partitioned (parted w bs c.requires.falling)
+    (λ a r q k. search rules) in
+    let front : c.split_at.result.0.now ≡ within w.ticks w.at bs = c.split_at.ensures.front
+    ∙ front_within w bs n c.partition_point-kept.ensures.bound point.0 point.1 in
+    let lost = rw c.split_at.ensures.back at c.sum_of_sizes.ensures.value in
+    let old : c.map_or.result ≡ oldest 0 c.split_at.result.0.now =
+    oldest_get 0 c.split_at.result.0.now (option_copied c.last.result) c.map_or.result c.last.ensures.value (search rules) in
+    record {
+      value = told_is _ _ _ c.split_at.result.0.now refl
+          (rw c.split_at.ensures.front (omega (arith, lost, total-sum bs, total-sum (take n bs), sum_by-take-drop size bs n))) old
+          ∙ ap told front;
+    }

@@ -1,5 +1,0 @@
-use Rattle.lines.proofs.LineLaws.{kept}
-use Rattle.lines.proofs.laws.kept.Goals as goal
-
-pub returns : goal.returns
-returns c = kept

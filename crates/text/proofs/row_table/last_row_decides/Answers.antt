@@ -1,5 +1,0 @@
-use Rattle.text.specs.RowLaws.{last_decides}
-use Rattle.text.proofs.row_table.last_row_decides.Goals as goal
-
-pub returns : goal.returns
-returns c = last_decides

@@ -1,5 +1,0 @@
-use Rattle.weigh.proofs.StreamLaws.{one_stream}
-use Rattle.weigh.proofs.pieces.one_stream.Goals as goal
-
-pub returns : goal.returns
-returns c = one_stream
