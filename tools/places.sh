@@ -29,7 +29,7 @@ show "6b lengths beside" '^ *(pub |pub\(crate\) )?(len|n|c): usize'
 show "7 choices among steps" '\bfn\(|dyn |Box<|impl Fn|match self'
 
 echo "== 8 answers, files of answers, files of invariants, lines of lemmas"
-find crates -name Answers.antt -path '*/proofs/*' | xargs cat | grep -c '^pub '
-find crates -name Answers.antt -path '*/proofs/*' | wc -l
-find crates -name Invariants.antt -path '*/proofs/*' | wc -l
-cat crates/*/proofs/*.antt | wc -l
+git ls-files 'crates/*/proofs/*' | grep '/Answers\.antt$' | xargs cat | grep -c '^pub '
+git ls-files 'crates/*/proofs/*' | grep -c '/Answers\.antt$'
+git ls-files 'crates/*/proofs/*' | grep -c '/Invariants\.antt$'
+git ls-files 'crates/*/proofs/*' | grep -E '^crates/[a-z]+/proofs/[A-Za-z]+\.antt$' | xargs cat | wc -l

@@ -17,6 +17,7 @@ use std::io::{BufRead, BufReader, Write};
 use taking::{sum_up, take_line};
 
 /// Prints what has been gathered, at once.
+// `weigh` has its like: a crate of its own for these lines, which both would name, is no plainer.
 fn print<W: Write>(output: &mut W, out: &mut String) -> io::Result<()> {
     output.write_all(out.as_bytes())?;
     output.flush()?;

@@ -5,20 +5,10 @@ ghost use Rattle.buckets.specs.Numbers.{NumberRead};
 pub fn read_number(line: &[u8], most: u64) -> Option<u64>
     ensures { NumberRead line.now most result }
 {
-    // Only 0 itself begins with a zero.
-    if let [] | [b'0', _, ..] = line {
+    // A number has no sign, and only 0 itself begins with a zero.
+    if let [b'0', _, ..] | [b'+', ..] = line {
         return None;
     }
-    let mut number = 0u64;
-    for byte in line {
-        if !byte.is_ascii_digit() {
-            return None;
-        }
-        number = number.checked_mul(10)?.checked_add(u64::from(byte - b'0'))?;
-        // Further digits only add to it.
-        if number > most {
-            return None;
-        }
-    }
-    Some(number)
+    let number = str::from_utf8(line).ok()?.parse::<u64>().ok()?;
+    (number <= most).then_some(number)
 }

@@ -1,4 +1,6 @@
 //! What the program prints.
+//!
+//! What prints says in its contract which text it appends. The texts differ, so that no type could say it for all.
 ghost use Rattle.std.specs.Prelude.{◌≡◌, ◌++◌, Some, All, OnOk, string_bytes};
 ghost use Rattle.theory.specs.Buckets.{size};
 ghost use Rattle.buckets.specs.Reports.{Small, reason, refused, sizes_list, summary_words};
@@ -38,6 +40,8 @@ pub fn refuse(out: &mut String, at: u64, refusal: Refusal) -> fmt::Result
 }
 
 /// How many arrivals a bucket stands for.
+///
+/// It is no public method of `Entry`: an `Entry` holds any exponent, and no public call may ask for anything.
 fn size_of(bucket: Entry) -> u64
     requires { Small bucket }
     ensures { result ≡ size bucket }

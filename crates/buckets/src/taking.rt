@@ -49,6 +49,7 @@ pub fn take_line(board: &mut Option<Board>, line: &[u8], at: u64, out: &mut Stri
 pub fn sum_up(board: &Option<Board>, out: &mut String) -> fmt::Result
     ensures summed { OnOk result (string_bytes out.new ≡ string_bytes out.old ++ summed board.now) }
 {
+    // A match: `as_ref().map(Board::summary).unwrap_or_default()` was tried, and leaves a goal that the match does not.
     let summary = match board {
         Some(board) => board.summary(),
         None => Summary::default(),

@@ -1,9 +1,10 @@
-//! Edges of reading a number and of printing sizes, with expected values written by hand.
+//! Edges of reading a number and of printing, with expected values written by hand.
 ghost use Rattle.std.specs.Prelude.{◌≤◌};
 ghost use Rattle.buckets.specs.Reports.{Small};
 
 use crate::numbers::read_number;
-use crate::report::Sizes;
+use crate::report::{Refusal, Sizes, refuse};
+use crate::taking::{sum_up, take_line};
 use std::test::Fail;
 use theory::Entry;
 
@@ -64,5 +65,23 @@ fn sizes_oldest_first(rt: HostRuntime) -> Result<(), Fail> {
     let sizes = Sizes { buckets: &buckets };
     writeln!(out, "{sizes}")?;
     assert_eq!(rt; out.as_str(), "\n1\n1099511627776 8 2 2 1\n");
+    Ok(())
+}
+
+#[test]
+fn lines_that_are_taken(rt: HostRuntime) -> Result<(), Fail> {
+    let mut out = String::new(rt.alloc());
+    let mut board = None;
+    take_line(&mut board, b"3", 1, &mut out)?;
+    take_line(&mut board, b"2", 2, &mut out)?;
+    take_line(&mut board, b"5", 3, &mut out)?;
+    take_line(&mut board, b"961", 4, &mut out)?;
+    refuse(&mut out, 5, Refusal::NoTick)?;
+    sum_up(&board, &mut out)?;
+    assert_eq!(rt;
+        out.as_str(),
+        "line 1: refused, k is an even number from 2 to 32\n2 2 1\nline 4: refused, a count is a number from 0 to 960\n\
+line 5: refused, no more ticks are left\n5 arrivals stand in 3 buckets\n"
+    );
     Ok(())
 }

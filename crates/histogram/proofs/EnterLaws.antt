@@ -14,7 +14,6 @@ use Rattle.std.specs.List.{AllByRecursion}
 use Rattle.theory.proofs.FullLaws.{insertion_sound}
 use Rattle.theory.proofs.KeepLaws.{dropping_keeps, insertions_keep, own_keeps, own_arrivals}
 use Rattle.theory.proofs.SoundLaws.{SoundBuckets, sound_says}
-use Rattle.theory.proofs.Views.{cap}
 use Rattle.theory.specs.Arrivals.{Falling, Keeps}
 use Rattle.theory.specs.Buckets.{closing_figure, stamps, total, within}
 use Rattle.theory.specs.Sound.{every, formed, is_zero, sound, sound_buckets, zero_entry, zeros}

@@ -6,6 +6,7 @@ use Rattle.std.proofs.lemmas.Bool.{and_parts, cond-false, cond-true, leb-true, l
 use Rattle.std.proofs.lemmas.List.Recursion.{is_sum_by}
 use Rattle.std.specs.List.{AllByRecursion, AllWithin, sum_by}
 use Rattle.std.specs.List.Sorted.{IsPartitionedBy}
+use Rattle.theory.proofs.BracketLaws.{falls_at, oldest-pos}
 use Rattle.theory.specs.Arrivals.{Falling}
 use Rattle.theory.specs.Buckets.{low, oldest, size, stamps, total, within}
 use Rattle.theory.specs.Sound.{never_rise}
@@ -55,17 +56,15 @@ all_lives N own (b ∷ []) h = lt-ltb own (b.stamp + N) h.0
 all_lives N own (b ∷ (c ∷ bs)) h = all_lives N own (c ∷ bs) h.1
 
 -- buckets outside a window are the last
-below_at : (s : ℕ) (bs : List Entry) → AllByRecursion (λ u. u ≤ s) (stamps bs) → (k : ℕ) (d : Entry) → k < length bs → (get_or bs k d).stamp ≤ s
-below_at s [] b k d h = absurd (omega arith)
-below_at s (x ∷ bs) b zero d h = b.0
-below_at s (x ∷ bs) b (suc k) d h = below_at s bs b.1 k d (omega arith)
+stamp_at : (bs : List Entry) (k : ℕ) (d : Entry) → k < length bs → (k < length (stamps bs)) × (get_or (stamps bs) k 0 ≡ (get_or bs k d).stamp)
+stamp_at [] k d h = absurd (omega arith)
+stamp_at (b ∷ bs) zero d h = (omega arith, refl)
+stamp_at (b ∷ bs) (suc k) d h = let w = stamp_at bs k d (omega arith) in (omega (arith, w.0), w.1)
 
 stamps_fall : (bs : List Entry) → Falling (stamps bs) → (i j : ℕ) (d : Entry) → i ≤ j → j < length bs → (get_or bs j d).stamp ≤ (get_or bs i d).stamp
-stamps_fall [] f i j d le h = absurd (omega arith)
-stamps_fall (x ∷ bs) f zero zero d le h = omega arith
-stamps_fall (x ∷ bs) f zero (suc j) d le h = below_at x.stamp bs f.0 j d (omega arith)
-stamps_fall (x ∷ bs) f (suc i) zero d le h = absurd (omega arith)
-stamps_fall (x ∷ bs) f (suc i) (suc j) d le h = stamps_fall bs f.1 i j d (omega arith) (omega arith)
+stamps_fall bs f i j d le h =
+    let w = stamp_at bs j d h in
+    omega (arith, falls_at (stamps bs) f i j le w.0, w.1, (stamp_at bs i d (omega arith)).1)
 
 pub parted : (w : Window) (bs : List Entry) → Falling (stamps bs) → IsPartitionedBy (λ b. holds w b.stamp) bs
 parted w bs f i j d le h held =
@@ -87,23 +86,11 @@ front_within w (b ∷ bs) (suc n) le t f =
 pub total-sum : (bs : List Entry) → total bs ≡ sum_by size bs
 total-sum bs = is_sum_by total size refl (λ _ _. refl) bs
 
--- low, from how many buckets, the sum of their sizes and the oldest
-pub oldest_le : (c : ℕ) (bs : List Entry) → oldest c bs ≤ c + total bs
-oldest_le c [] = omega arith
-oldest_le c (b ∷ bs) = omega (arith, oldest_le (size b) bs)
-
+-- low and the oldest, from how many buckets there are
 pub low_none : (bs : List Entry) → length bs ≡ 0 → low bs ≡ 0
 low_none [] h = refl
 low_none (b ∷ bs) h = absurd (omega arith)
 
-pub low_some : (bs : List Entry) → (length bs ≡ 0 → ⊥) → low bs ≡ (total bs - oldest 0 bs) + 1
-low_some [] h = absurd (h refl)
-low_some (b ∷ bs) h = refl
-
-pub oldest-some : (bs : List Entry) → (length bs ≡ 0 → ⊥) → 1 ≤ oldest 0 bs
-oldest-some [] h = absurd (h refl)
-oldest-some (b ∷ bs) h = from (size b) bs (pow_pos b.exponent)
-  where
-    from : (c : ℕ) (bs : List Entry) → 1 ≤ c → 1 ≤ oldest c bs
-    from c [] h = h
-    from c (b ∷ bs) h = from (size b) bs (pow_pos b.exponent)
+pub oldest-some : (bs : List Entry) → 1 ≤ length bs → 1 ≤ oldest 0 bs
+oldest-some [] h = absurd (omega arith)
+oldest-some (b ∷ bs) h = oldest-pos (size b) bs (pow_pos b.exponent)

@@ -7,6 +7,7 @@ use Rattle.histogram.specs.Tails.{Level, Tail, level_end, levelled}
 use Rattle.std.proofs.lemmas.List.{drop_more, get_or-take, length-drop, length-take-le, take-append-drop, take_more}
 use Rattle.std.proofs.lemmas.Bool.{and_from, and_parts, cases_lt, cond-true, eq-eqb, eqb-true, le-leb, leb-true}
 use Rattle.std.proofs.lemmas.Option.{cond_some, none-some}
+use Rattle.theory.proofs.MergeLaws.{row-append}
 use Rattle.theory.proofs.TopLaws.{length-row}
 use Rattle.theory.specs.Buckets.{stamps, total}
 use Rattle.theory.specs.Levels.{Canonical, Filled, flat, row}
@@ -100,19 +101,11 @@ level-total e s (x ∷ xs) h =
     let w = level_says e s x xs h in
     omega (arith, ap (λ (y : ℕ). 2 ^ y) w.same, level-total e x.stamp xs w.rest)
 
-pub total-append : (xs ys : List Entry) → total (xs ++ ys) ≡ total xs + total ys
-total-append [] ys = omega arith
-total-append (x ∷ xs) ys = omega (arith, total-append xs ys)
-
 length-stamps : (xs : List Entry) → length (stamps xs) ≡ length xs
 length-stamps [] = refl
 length-stamps (x ∷ xs) = omega (arith, length-stamps xs)
 
 -- a row and what is older
-row_split : (e : ℕ) (ss : List ℕ) (older : List Entry) → row e ss older ≡ row e ss [] ++ older
-row_split e [] older = refl
-row_split e (s ∷ ss) older = ap {B = List Entry} (λ r. of_size e s ∷ r) (row_split e ss older)
-
 row_front : (e s : ℕ) (ss : List ℕ) (older : List Entry) (m : ℕ) → m ≤ length ss → never_rise s (row e ss older) ≡ true
     → levelled e s (take m (row e ss older)) ≡ true
 row_front e s ss older zero h g = refl
@@ -233,7 +226,7 @@ module _ (l r e s n : ℕ) (rest : List Entry) (v : Level l e s rest n) where
       record {
         levels = ss ∷ t.levels;
         whole = whole_is ∙ ap₂ (λ (xs ys : List Entry). xs ++ ys) (level-row e s (take n rest) v.level)
-            (t.whole ∙ ap (λ (x : ℕ). flat x t.levels) one) ∙ sym (row_split e ss (flat (suc e) t.levels));
+            (t.whole ∙ ap (λ (x : ℕ). flat x t.levels) one) ∙ sym (row-append e ss (flat (suc e) t.levels));
         canonical = (omega (arith, len, v.some), omega (arith, len, v.few), fill t.levels t.whole t.canonical, t.canonical);
         falls = subst (λ (xs : List Entry). never_rise s xs ≡ true) (sym whole_is)
             (rise_join e s (take n rest) (drop n rest) v.level (subst (λ (x : ℕ). never_rise x (drop n rest) ≡ true) (sym last_is) t.falls));

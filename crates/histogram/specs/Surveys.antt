@@ -9,6 +9,10 @@ use Rattle.histogram.specs.declared.surveys.Survey.{Survey}
 use Rattle.histogram.specs.declared.track.Histogram.{Histogram}
 use Rattle.histogram.specs.declared.window.Window.{Window}
 
+-- the size fits a word: 2^30 at most
+abbrev pub Small : Entry → Type 0
+Small b = b.exponent ≤ 30
+
 -- whether the stamp s is in the window
 abbrev pub holds : Window → ℕ → Bool
 holds w s = nat_lt w.at (s + w.ticks)

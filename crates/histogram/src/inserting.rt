@@ -3,16 +3,13 @@
 //! Each level takes in what the level below hands up: `new` buckets of the tick, and some older stamps. Of these and its
 //! own buckets the newest stay, and the newer of each pair of the rest goes up. The stretch is read on the way up and
 //! written on the way back, so that nothing is overwritten before it is read.
-ghost use Rattle.std.specs.Prelude.{◌≡◌, ℕ, ◌+◌, ◌-◌, ◌*◌, ◌≤◌, true, List, ◌++◌, map, length, take, drop, replicate};
+ghost use Rattle.std.specs.Prelude.{◌≡◌, ℕ, ◌+◌, ◌-◌, ◌*◌, ◌≤◌, List, ◌++◌, map, length, replicate};
 ghost use Rattle.arrayvec.specs.ArrayVec.{array_vec_len};
-ghost use Rattle.theory.specs.Buckets.{insertions, total, closing_figure};
 ghost use Rattle.theory.specs.Levels.{newer, staying};
-ghost use Rattle.theory.specs.Sound.{every, is_zero, formed};
-ghost use Rattle.histogram.specs.Entering.{padded};
 ghost use Rattle.histogram.specs.declared.inserting.TheConstants.{MOST_HELD};
 ghost use Rattle.histogram.specs.Raising.{laid, of_size, own_of, raised, Ready};
 
-use super::settings::Settings;
+use super::track::Histogram;
 use arrayvec::ArrayVec;
 use theory::{Entry, NO_BUCKET};
 
@@ -70,7 +67,7 @@ fn put(place: &mut [Entry], exponent: u64, tick: u64, new: usize, olds: &[u64])
         stamp: tick,
         exponent,
     });
-    // By index, since a proof knows only the length of what `iter_mut` has lent.
+    // By index, since a proof knows only the length of what `iter_mut().zip(..)` has lent; of `iter_mut` alone it knows the values.
     for (k, &stamp) in olds.iter().enumerate() {
         place[new + k] = Entry { stamp, exponent };
     }
@@ -128,36 +125,43 @@ fn raise(stretch: &mut [Entry], turn: Turn, olds: &[u64]) -> usize
     end
 }
 
-/// Of the `buckets` buckets of a stretch the first `kept` stay; then `arrivals` come at `tick`, one after another. What is
-/// past the last bucket becomes zero. Answers how many buckets there are then.
-pub(crate) fn insert(
-    stretch: &mut [Entry],
-    settings: &Settings,
-    buckets: usize,
-    kept: usize,
-    tick: u64,
-    arrivals: usize,
-) -> usize
-    requires places { (kept ≤ buckets) × ((buckets ≤ length stretch.old) × ((settings.now.half + 1) * (settings.now.top + 1) ≤ length stretch.old)) }
-    requires past { every is_zero (drop buckets stretch.old) ≡ true }
-    requires form { formed settings.now.half tick (take kept stretch.old) ≡ true }
-    requires room { (arrivals ≤ 1024) × (total (take kept stretch.old) + arrivals ≤ closing_figure settings.now.half settings.now.top) }
-    ensures after { stretch.new ≡ padded (length stretch.old) (insertions settings.now.half arrivals tick (take kept stretch.old)) }
-    ensures many { result ≡ length (insertions settings.now.half arrivals tick (take kept stretch.old)) }
-{
-    // l by a cast: `usize` has no `From<u64>`, and the check proves that it loses nothing.
-    let turn = Turn {
-        half: settings.half as usize,
-        tick,
-        end: kept,
-        exponent: 0,
-        read: 0,
-        write: 0,
-        new: arrivals,
-    };
-    let end = raise(stretch, turn, &[]);
-    if end < buckets {
-        stretch[end..buckets].fill(NO_BUCKET);
+impl Histogram {
+    ghost use Rattle.std.specs.Prelude.{◌≡◌, ◌+◌, ◌*◌, ◌≤◌, true, length, take, drop};
+    ghost use Rattle.theory.specs.Buckets.{insertions, total, closing_figure};
+    ghost use Rattle.theory.specs.Sound.{every, is_zero, formed};
+    ghost use Rattle.histogram.specs.Entering.{padded};
+
+    /// Of the buckets of a stretch the first `kept` stay; then `arrivals` come at `tick`, one after another. What is past
+    /// the last bucket becomes zero. Answers how many buckets there are then.
+    pub(crate) fn insert(
+        &self,
+        stretch: &mut [Entry],
+        kept: usize,
+        tick: u64,
+        arrivals: usize,
+    ) -> usize
+        requires places { (kept ≤ self.now.standing.buckets) × ((self.now.standing.buckets ≤ length stretch.old) × ((self.now.settings.half + 1) * (self.now.settings.top + 1) ≤ length stretch.old)) }
+        requires past { every is_zero (drop self.now.standing.buckets stretch.old) ≡ true }
+        requires form { formed self.now.settings.half tick (take kept stretch.old) ≡ true }
+        requires room { (arrivals ≤ 1024) × (total (take kept stretch.old) + arrivals ≤ closing_figure self.now.settings.half self.now.settings.top) }
+        ensures after { stretch.new ≡ padded (length stretch.old) (insertions self.now.settings.half arrivals tick (take kept stretch.old)) }
+        ensures many { result ≡ length (insertions self.now.settings.half arrivals tick (take kept stretch.old)) }
+    {
+        // l by a cast: `usize` has no `From<u64>`, and the check proves that it loses nothing.
+        let turn = Turn {
+            half: self.settings.half as usize,
+            tick,
+            end: kept,
+            exponent: 0,
+            read: 0,
+            write: 0,
+            new: arrivals,
+        };
+        let end = raise(stretch, turn, &[]);
+        let buckets = self.standing.buckets;
+        if end < buckets {
+            stretch[end..buckets].fill(NO_BUCKET);
+        }
+        end
     }
-    end
 }

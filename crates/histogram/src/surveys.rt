@@ -1,18 +1,19 @@
 //! What a pass over the buckets of a stretch tells of a window.
-ghost use Rattle.std.specs.Prelude.{◌≡◌, ◌^◌, ◌<◌, ◌≤◌};
+ghost use Rattle.std.specs.Prelude.{◌≡◌, ◌^◌, ◌<◌};
 ghost use Rattle.std.specs.List.{All, sum_by};
 ghost use Rattle.theory.specs.Arrivals.{Falling};
 ghost use Rattle.theory.specs.Buckets.{size, total, within, stamps};
-ghost use Rattle.histogram.specs.Surveys.{lives, told};
+ghost use Rattle.histogram.specs.Surveys.{lives, told, Small};
 
 use super::window::Window;
 use theory::Entry;
 
-/// Of some buckets: how many there are, the sum of their sizes, and the size of the oldest, 0 without any.
+/// Of some buckets: how many there are, the sum of their sizes, and the size of the oldest.
 #[derive(Clone, Copy, PartialEq, Eq, Debug)]
 pub struct Survey {
     pub buckets: usize,
     pub sizes: u64,
+    /// 0 without any, as the definition `oldest` of crate `theory` has it.
     pub oldest: u64,
 }
 
@@ -23,9 +24,10 @@ pub struct Figures {
     pub high: u64,
 }
 
-/// How many arrivals a bucket stands for.
+/// How many arrivals a bucket stands for. No public method of `Entry`: an entry holds any exponent, and no public call may
+/// ask for anything.
 fn size(bucket: &Entry) -> u64
-    requires small { bucket.now.exponent ≤ 30 }
+    requires small { Small bucket.now }
     ensures value { result ≡ size bucket.now }
 {
     1 << bucket.exponent
@@ -38,27 +40,37 @@ pub(crate) fn oldest_lives(buckets: &[Entry], window: Window) -> bool
     buckets.last().is_none_or(|last| window.holds(last.stamp))
 }
 
-/// The sum of the sizes of buckets.
-fn sum_of_sizes(buckets: &[Entry]) -> u64
-    requires small { All (λ b. b.exponent ≤ 30) buckets.now }
-    requires fits { sum_by size buckets.now < 2 ^ 64 }
-    ensures value { result ≡ sum_by size buckets.now }
-{
-    buckets.iter().map(size).sum()
+/// Buckets whose sizes fit a word.
+#[derive(Clone, Copy)]
+pub(crate) struct Buckets<'a> {
+    pub(crate) entries: &'a [Entry],
+    ghost small: { All Small entries.now },
 }
 
-/// Of buckets with `sizes` in all, those in the window. Those outside it are the last.
-pub(crate) fn windowed(buckets: &[Entry], sizes: u64, window: Window) -> Survey
-    requires falling { Falling (stamps buckets.now) }
-    requires small { All (λ b. b.exponent ≤ 30) buckets.now }
-    requires sum { sizes ≡ total buckets.now }
-    ensures value { result ≡ told (within window.ticks window.at buckets.now) }
-{
-    let kept = buckets.partition_point(|bucket| window.holds(bucket.stamp));
-    let (held, expired) = buckets.split_at(kept);
-    Survey {
-        buckets: held.len(),
-        sizes: sizes - sum_of_sizes(expired),
-        oldest: held.last().map_or(0, size),
+impl Buckets<'_> {
+    /// The sum of the sizes.
+    fn sizes(&self) -> u64
+        requires fits { sum_by size self.now.entries.now < 2 ^ 64 }
+        ensures value { result ≡ sum_by size self.now.entries.now }
+    {
+        self.entries.iter().map(size).sum()
+    }
+
+    /// Those in the window, where all have `sizes` in all. Those outside it are the last.
+    pub(crate) fn windowed(&self, sizes: u64, window: Window) -> Survey
+        requires falling { Falling (stamps self.now.entries.now) }
+        requires sum { sizes ≡ total self.now.entries.now }
+        ensures value { result ≡ told (within window.ticks window.at self.now.entries.now) }
+    {
+        let kept = self
+            .entries
+            .partition_point(|bucket| window.holds(bucket.stamp));
+        let (held, expired) = self.entries.split_at(kept);
+        let expired = Buckets { entries: expired };
+        Survey {
+            buckets: held.len(),
+            sizes: sizes - expired.sizes(),
+            oldest: held.last().map_or(0, size),
+        }
     }
 }

@@ -1,9 +1,8 @@
 //! The histogram of a track: what the track keeps of it, and what is done with it.
 
-use super::inserting::insert;
 use super::levels::{all_zero, formed_sizes};
 use super::settings::Settings;
-use super::surveys::{Figures, Survey, oldest_lives, windowed};
+use super::surveys::{Buckets, Figures, Survey, oldest_lives};
 use super::window::Window;
 use theory::Entry;
 
@@ -97,7 +96,7 @@ impl Histogram {
         if !oldest_lives(held, self.longest(self.standing.tick)) {
             return None;
         }
-        Some(windowed(held, sizes, window))
+        Some(Buckets { entries: held }.windowed(sizes, window))
     }
 
     /// Low and high of a window; nothing where the stretch is not sound.
@@ -146,14 +145,7 @@ impl Histogram {
             return Err(EnterFault::Full);
         }
         // At most R arrivals by a cast: `usize` has no `From<u64>`, and the check proves that it loses nothing.
-        let buckets = insert(
-            stretch,
-            &self.settings,
-            self.standing.buckets,
-            kept.buckets,
-            tick,
-            arrivals as usize,
-        );
+        let buckets = self.insert(stretch, kept.buckets, tick, arrivals as usize);
         self.standing = Standing {
             tick,
             weight,

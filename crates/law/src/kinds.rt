@@ -40,6 +40,7 @@ pub enum Call<'a> {
 pub struct Answer {
     pub low: u64,
     pub high: u64,
+    /// Not an `Option`: by the rule of totals it is 0 without an open track.
     pub k: u64,
     pub buckets: u64,
 }

@@ -1,10 +1,10 @@
 -- Laws of row tables: one row more, rows that do not hold a code point, and the bound on the weight.
-use Rattle.std.specs.Prelude.{◌≡◌, ℕ, ◌+◌, ◌<◌, ◌≤◌, false, cond, ◌⊎◌, List, [], ◌∷◌, ◌++◌, map, reverse, length, take, Ok, Err, slice_index_or, slice_set}
+use Rattle.std.specs.Prelude.{◌≡◌, ℕ, ◌+◌, ◌<◌, ◌≤◌, false, cond, ◌⊎◌, List, [], ◌∷◌, ◌++◌, map, reverse, length, take, Ok, Err, nat_lt, slice_index_or, slice_set}
 use mathlib.Core.List.{reverse_aux, append_assoc, append-nil}
 use Rattle.std.proofs.Common.{sym, ap, ◌∙◌, arith}
 use Rattle.std.proofs.lemmas.Bool.Decides.{nat_tests}
 use Rattle.std.proofs.lemmas.List.{reverse-append, map_more, map_push, take_more_set, length-map, length-take-le}
-use Rattle.std.proofs.lemmas.Bool.{cond-true, cond-false, cond_both, le-leb}
+use Rattle.std.proofs.lemmas.Bool.{cond-true, cond-false, cond_both, le-leb, lt-leb, le-ltb, or_from}
 use Rattle.std.specs.List.{AllByRecursion}
 use Rattle.text.specs.declared.rows.Row.{Row}
 use Rattle.text.specs.declared.rows.RowTable.{RowTable}
@@ -66,6 +66,10 @@ module _ (n first last weight : ℕ) where
 
   pub answer_range : n < 32 → (last < first) ⊎ (1114111 < last) → Err (BadRange first last) ≡ row_answer n first last weight
   answer_range room bad = grind (arith, nat_tests)
+
+  past_range : n < 32 → first ≤ last → last ≤ 1114111 → cond (nat_lt 4 weight) (Err (TooHeavy weight)) (Ok tt) ≡ row_answer n first last weight
+  past_range room ordered known =
+      sym (cond-false _ _ _ (lt-leb 32 n room) ∙ cond-false _ _ _ (or_from _ _ (le-ltb last first ordered) (le-ltb 1114111 last known)))
 
   pub answer_heavy : n < 32 → first ≤ last → last ≤ 1114111 → 4 < weight → Err (TooHeavy weight) ≡ row_answer n first last weight
   answer_heavy room ordered known heavy = grind (arith, nat_tests)

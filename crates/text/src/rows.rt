@@ -69,7 +69,7 @@ impl Row {
         if weight > HEAVIEST {
             return Err(RowFault::TooHeavy { weight });
         }
-        // The tests above leave nothing that a cast could lose.
+        // By casts: `try_from` would add errors that cannot come, since the tests above leave nothing that a cast could lose.
         Ok(Row {
             first: first as u32,
             last: last as u32,

@@ -86,13 +86,13 @@ module _ (N t : ℕ) (us : List ℕ) (falls : Falling us) (W a : ℕ) where
       rw (none_within (p + size b) bs (λ k le lt. omega (arith, falls_at us falls p k (omega arith) lt)) h.2)
       (at_most W a us falls p (λ _. d)))
 
-oldest-pos : (c : Entry) (cs : List Entry) → 1 ≤ oldest (size c) cs
-oldest-pos c [] = pow_pos c.exponent
-oldest-pos c (d ∷ cs) = oldest-pos d cs
+pub oldest-pos : (c : ℕ) (bs : List Entry) → 1 ≤ c → 1 ≤ oldest c bs
+oldest-pos c [] h = h
+oldest-pos c (b ∷ bs) h = oldest-pos (size b) bs (pow_pos b.exponent)
 
-oldest_le : (c : Entry) (cs : List Entry) → oldest (size c) cs ≤ total (c ∷ cs)
+pub oldest_le : (c : ℕ) (bs : List Entry) → oldest c bs ≤ c + total bs
 oldest_le c [] = omega arith
-oldest_le c (d ∷ cs) = omega (arith, oldest_le d cs)
+oldest_le c (b ∷ bs) = omega (arith, oldest_le (size b) bs)
 
 gap : (l d C T X : ℕ) → d + 1 ≡ C → T < X + C → l * C + C ≤ T + l → (2 * l) * d ≤ 2 * X
 gap l d C T X e h w = let w' : l * (d + 1) + C ≤ T + l = rw e w in omega arith
@@ -100,8 +100,8 @@ gap l d C T X e h w = let w' : l * (d + 1) + C ≤ T + l = rw e w in omega arith
 finish : (l X : ℕ) (cs : List Entry) → Bracket l X 0 cs → (low cs ≤ X) × (X ≤ high cs) × ((2 * l) * (high cs - low cs) ≤ 2 * X)
 finish l X [] b = (omega arith, omega arith, omega arith)
 finish l X (c ∷ cs) b =
-    let pos : 1 ≤ oldest (size c) cs = oldest-pos c cs in
-    let le : oldest (size c) cs ≤ total (c ∷ cs) = oldest_le c cs in (
+    let pos : 1 ≤ oldest (size c) cs = oldest-pos (size c) cs (pow_pos c.exponent) in
+    let le : oldest (size c) cs ≤ total (c ∷ cs) = oldest_le (size c) cs in (
       omega arith,
       omega arith,
       gap l (high (c ∷ cs) - low (c ∷ cs)) (oldest (size c) cs) (total (c ∷ cs)) X (omega arith) (omega arith) (omega arith),

@@ -140,7 +140,7 @@ most_is : (l p T : ℕ) → 1 ≤ p → T + (l + 1) ≤ (l + 1) * p → T ≤ (l
 most_is l zero T a b = absurd (omega arith)
 most_is l (suc p) T a b = let z : suc p - 1 ≡ p = omega arith in rw z (omega (arith, b))
 
-low_is : (bs : List Entry) → 1 ≤ length bs → low bs ≡ (total bs - oldest 0 bs) + 1
+pub low_is : (bs : List Entry) → 1 ≤ length bs → low bs ≡ (total bs - oldest 0 bs) + 1
 low_is [] h = absurd (omega arith)
 low_is (x ∷ bs) h = refl
 

@@ -18,7 +18,7 @@ Under e bs = AllByRecursion (λ b. b.exponent < e) bs
 under_more : (e : ℕ) (bs : List Entry) → Under e bs → Under (suc e) bs
 under_more e bs h = All-weaker (λ b. b.exponent < e) (λ b. b.exponent < suc e) (λ b q. omega arith) bs h
 
-row-append : (e : ℕ) (ss : List ℕ) (older : List Entry) → row e ss older ≡ row e ss [] ++ older
+pub row-append : (e : ℕ) (ss : List ℕ) (older : List Entry) → row e ss older ≡ row e ss [] ++ older
 row-append e [] older = refl
 row-append e (s ∷ ss) older = ap {B = List Entry} (λ r. record { stamp = s; exponent = e } ∷ r) (row-append e ss older)
 

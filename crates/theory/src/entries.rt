@@ -2,7 +2,7 @@
 
 /// A bucket: it stands for 2^`exponent` arrivals, the newest of which came at the tick `stamp`. Where no bucket is, both
 /// are 0. Two whole words: an entry is read and compared faster without padding.
-#[derive(Clone, Copy)]
+#[derive(Clone, Copy, PartialEq, Eq, Debug)]
 pub struct Entry {
     pub stamp: u64,
     pub exponent: u64,

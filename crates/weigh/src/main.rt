@@ -10,6 +10,8 @@ ghost use Rattle.weigh.specs.Reports.{no_lines};
 ghost use Rattle.weigh.specs.Streams.{printed_of};
 
 mod reports;
+#[cfg(test)]
+mod tests;
 mod weigher;
 
 use std::alloc::Global;
@@ -31,6 +33,7 @@ fn weigh<R: Read, W: Write>(
 {
     let mut weigher = Weigher::new();
     let mut out = String::new(heap);
+    // With an end, which no input reaches: a reader may go on forever, and a loop without one may then never return.
     for _ in 0..u64::MAX {
         let count = input.read(buffer)?;
         if count == 0 {
@@ -46,6 +49,7 @@ fn weigh<R: Read, W: Write>(
 }
 
 /// Writes `text`, and keeps none of it back.
+// `buckets` has its like: a crate of its own for these lines, which both would name, is no plainer.
 fn print<W: Write>(output: &mut W, text: &str) -> io::Result<()>
     ensures { OnOk result (Appends (W.contents output.old) (W.contents output.new) text.now) }
 {
@@ -56,7 +60,7 @@ fn print<W: Write>(output: &mut W, text: &str) -> io::Result<()>
 fn main(rt: HostRuntime) -> anyhow::Result<()> {
     let mut input = rt.stdin();
     let mut output = rt.stdout();
-    // An array lent to `read`, which says how much of it was filled: no heap, and the same memory for each chunk.
+    // An array lent to `read`, which says how much of it was filled: a `BufReader` with `fill_buf` and `consume` is no shorter.
     let mut buffer = [0u8; CHUNK];
     weigh(rt.alloc(), &mut input, &mut output, &mut buffer)
 }

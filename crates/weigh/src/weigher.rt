@@ -8,17 +8,18 @@ ghost use Rattle.weigh.specs.Streams.{TakenIn, printed_last, OneStream};
 use crate::reports::{Report, Tally, Weights};
 use lines::{HeldLine, line_length};
 use std::fmt;
+use text::MOST_BYTES;
 
 /// How many bytes of a line are kept: one more than a text may have tells that it is too long.
-pub const KEPT: usize = 241;
+pub const KEPT: usize = MOST_BYTES + 1;
 
 /// Weighs the lines of a stream that arrives in pieces.
 ///
 /// It holds the first bytes of the line that has not ended yet, and the tally of those that have.
 #[derive(Drop)]
 pub struct Weigher {
-    line: HeldLine<KEPT>,
-    tally: Tally,
+    pub line: HeldLine<KEPT>,
+    pub tally: Tally,
 }
 
 impl Weigher {

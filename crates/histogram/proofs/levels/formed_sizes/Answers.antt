@@ -1,10 +1,12 @@
 use Rattle.std.proofs.Common.{◌≡◌, ℕ, ◌+◌, ◌*◌, ◌^◌, ◌<◌, ◌≤◌, Bool, true, false, eqb, List, [], length, take, drop, Option, sym, ap, ◌∙◌, subst, arith}
-use Rattle.histogram.proofs.TailLaws.{level-total, summed, tail_after, tail_before, tail_end, tail_over, total-append}
+use Rattle.histogram.proofs.TailLaws.{level-total, summed, tail_after, tail_before, tail_end, tail_over}
+use Rattle.histogram.proofs.SurveyLaws.{total-sum}
 use Rattle.histogram.specs.Tails.{SizesOf, Tail}
-use Rattle.std.proofs.lemmas.List.{length-take-le, nil_from_length, take-append-drop, take_rest}
+use Rattle.std.proofs.lemmas.List.{length-take-le, nil_from_length, take_rest}
 use Rattle.std.proofs.lemmas.Bool.{eqb-false, eqb-true}
 use Rattle.std.specs.Bool.{then_some}
-use Rattle.theory.specs.Buckets.{total}
+use Rattle.std.proofs.lemmas.List.Sums.{sum_by-take-drop}
+use Rattle.theory.specs.Buckets.{size, total}
 use Rattle.theory.specs.declared.entries.Entry.{Entry}
 use Rattle.histogram.proofs.levels.formed_sizes.Goals as goal
 
@@ -45,10 +47,15 @@ loop-e-preserved c =
     let v = c.in_ok-n.ensures.value in
     let i = c.loop-e.invariant in
     let m = summed s.half c.loop-e.e n c.loop-e.sizes v.few (omega arith) s.few i.bounded in
-    let sum : total rest ≡ n * 2 ^ c.loop-e.e + total (drop n rest) =
-    ap total (sym (take-append-drop n rest)) ∙ total-append (take n rest) (drop n rest)
-    ∙ ap (λ (x : ℕ). x + total (drop n rest)) (level-total c.loop-e.e c.loop-e.last (take n rest) v.level ∙ ap
-    (λ (x : ℕ). x * 2 ^ c.loop-e.e) (length-take-le n rest v.inside)) in
+    let level = level-total c.loop-e.e c.loop-e.last (take n rest) v.level ∙ ap (λ (x : ℕ). x * 2 ^ c.loop-e.e) (length-take-le n rest v.inside) in
+    let sum : total rest ≡ n * 2 ^ c.loop-e.e + total (drop n rest) = omega (
+      arith,
+      level,
+      total-sum rest,
+      total-sum (take n rest),
+      total-sum (drop n rest),
+      sum_by-take-drop size rest n,
+    ) in
     rw (m.shifted, take_rest rest n) (record {
       onward = λ t. tail_after s.half s.top c.loop-e.e c.loop-e.last n rest v (i.onward t);
       back = λ t. i.back (tail_before s.half s.top c.loop-e.e c.loop-e.last n rest v t);

@@ -20,7 +20,7 @@ pub returns-in_err-before : goal.returns-in_err-before
 returns-in_err-before c = rw c.from_residual.ensures (record {
   value = λ r t. level_end_none c.args.e c.args.last (take c.min-sure.result c.args.rest.now)
       (c.in_err-before.ensures.value ∙ ap (level_end c.args.e c.args.last) c.split_at.ensures.front)
-      (tail_front c.args.half r c.args.e c.args.last c.args.rest.now t c.min-sure.result (omega arith) (omega arith));
+      (tail_front c.args.settings.now.half r c.args.e c.args.last c.args.rest.now t c.min-sure.result (omega arith) (omega arith));
 })
 
 pub returns-in_default : goal.returns-in_default
@@ -44,7 +44,7 @@ returns-then-next-before c =
     c.in_ok-before.ensures.value in
     let up = rw (next_is n rest c.split_at.result.1.now c.split_at.ensures.back) at c.if-next-before.true in
     record {
-      value = λ r t. tail_rises c.args.half r c.args.e c.args.last n rest zero_entry (omega (arith, c.split_at.ensures.back_len))
+      value = λ r t. tail_rises c.args.settings.now.half r c.args.e c.args.last n rest zero_entry (omega (arith, c.split_at.ensures.back_len))
           (omega (arith, f.1, up)) t;
     }
 

@@ -1,7 +1,9 @@
 use Rattle.std.proofs.Common.{◌≡◌, ◌+◌, ◌-◌, sym, ◌∙◌, arith}
 use Rattle.histogram.proofs.StretchLaws.{Tells, figures_are, survey_tells}
-use Rattle.histogram.proofs.SurveyLaws.{low_none, low_some, oldest_le, oldest-some}
+use Rattle.histogram.proofs.SurveyLaws.{low_none, oldest-some}
 use Rattle.histogram.specs.Surveys.{held}
+use Rattle.theory.proofs.BracketLaws.{oldest_le}
+use Rattle.theory.proofs.FullLaws.{low_is}
 use Rattle.theory.specs.Buckets.{low}
 use Rattle.histogram.proofs.track.Histogram.count.Goals as goal
 use Rattle.histogram.proofs.track.Histogram.count.Goals.{In_ok-counted}
@@ -18,7 +20,7 @@ pub overflow_add-low : goal.overflow_add-low
 overflow_add-low c =
     let t = tells (goal.at.overflow_add-low c).In_ok-counted in
     let bs = held c.args.self.now c.args.window c.args.stretch.now in
-    omega (arith, t.old, t.sizes, oldest_le 0 bs, oldest-some bs (λ none. c.if-counted-eq0.false (t.many ∙ none)))
+    omega (arith, t.old, t.sizes, oldest_le 0 bs, oldest-some bs (omega (arith, t.many, c.if-counted-eq0.false)))
 
 pub returns-then-counted-eq0 : goal.returns-then-counted-eq0
 returns-then-counted-eq0 c =
@@ -34,6 +36,6 @@ returns-else-counted-eq0 c =
     let v = c.in_ok-counted.counted in
     let bs = held c.args.self.now c.args.window c.args.stretch.now in
     let least : (v.sizes - v.oldest) + 1 ≡ low bs =
-    rw (t.sizes, t.old) (sym (low_some bs (λ none. c.if-counted-eq0.false (t.many ∙ none)))) in
+    rw (t.sizes, t.old) (sym (low_is bs (omega (arith, t.many, c.if-counted-eq0.false)))) in
     let are = figures_are c.args.self.now c.args.window c.args.stretch.now ((v.sizes - v.oldest) + 1) v.sizes t.sound least t.sizes in
     record { value = are.0; brackets = are.1 }

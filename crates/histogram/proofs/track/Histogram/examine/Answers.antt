@@ -43,18 +43,21 @@ returns-then-not-oldest_lives c =
           false≢true (dead ∙ buckets_live s.half s.top s.window h.standing.tick _ f.buckets));
     }
 
+pub invariant_of-windowed : goal.invariant_of-windowed
+invariant_of-windowed c =
+    let h = c.args.self.now in
+    let s = h.settings in
+    let bs = take h.standing.buckets c.args.stretch.now in
+    let f = tail_facts s.half s.top h.standing.tick bs c.in_ok-sizes.ensures.value.0 in
+    record { small = λ k d lt. omega (arith, All-get_or (λ b. b.exponent ≤ s.top) bs k d lt f.small, s.small) }
+
 pub windowed-requires : goal.windowed-requires
 windowed-requires c =
     let h = c.args.self.now in
     let s = h.settings in
-    let bs = take h.standing.buckets c.args.stretch.now in
     let found = c.in_ok-sizes.ensures.value in
-    let f = tail_facts s.half s.top h.standing.tick bs found.0 in
-    record {
-      falling = f.falling;
-      small = λ k d lt. omega (arith, All-get_or (λ b. b.exponent ≤ s.top) bs k d lt f.small, s.small);
-      sum = found.1;
-    }
+    let f = tail_facts s.half s.top h.standing.tick (take h.standing.buckets c.args.stretch.now) found.0 in
+    record { falling = f.falling; sum = found.1 }
 
 pub returns : goal.returns
 returns c =

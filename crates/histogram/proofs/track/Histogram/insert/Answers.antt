@@ -2,21 +2,21 @@ use Rattle.std.proofs.Common.{◌-◌, length, take, drop, sym, ap, ◌∙◌, a
 use Rattle.histogram.proofs.InsertLaws.{none_left, past_zeros, rest_zeroed, start}
 use Rattle.histogram.specs.Entering.{padded}
 use Rattle.std.proofs.lemmas.List.{length-drop, length-take}
-use Rattle.histogram.proofs.inserting.insert.Goals as goal
+use Rattle.histogram.proofs.track.Histogram.insert.Goals as goal
 
 pub raise-end-requires-clause-ready : goal.raise-end-requires-clause-ready
 raise-end-requires-clause-ready c =
-    let s = c.args.settings.now in
+    let s = c.args.self.now.settings in
     let a = start s.half s.top c.args.arrivals c.args.tick c.args.kept c.args.stretch.now s.some s.small
     c.requires.places.1.1 c.requires.form c.requires.room.1 in (a.levels, a.ready)
 
 pub returns-then-end-buckets : goal.returns-then-end-buckets
 returns-then-end-buckets c =
-    let s = c.args.settings.now in
+    let s = c.args.self.now.settings in
     let xs = c.args.stretch.now in
     let ys = c.raise-end.new.stretch in
     let n = c.raise-end.result in
-    let b = c.args.buckets in
+    let b = c.args.self.now.standing.buckets in
     let a = start s.half s.top c.args.arrivals c.args.tick c.args.kept xs s.some s.small c.requires.places.1.1 c.requires.form c.requires.room.1 in
     let w = c.raise-end.ensures.raised a.levels a.ready in
     record {
@@ -28,9 +28,9 @@ returns-then-end-buckets c =
 
 pub returns-else-end-buckets : goal.returns-else-end-buckets
 returns-else-end-buckets c =
-    let s = c.args.settings.now in
+    let s = c.args.self.now.settings in
     let xs = c.args.stretch.now in
-    let b = c.args.buckets in
+    let b = c.args.self.now.standing.buckets in
     let a = start s.half s.top c.args.arrivals c.args.tick c.args.kept xs s.some s.small c.requires.places.1.1 c.requires.form c.requires.room.1 in
     let w = c.raise-end.ensures.raised a.levels a.ready in
     record {
