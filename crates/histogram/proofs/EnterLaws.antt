@@ -26,14 +26,14 @@ none_after W a s (x ∷ bs) b h =
     ∙ none_after W a s bs b.1 h
 
 -- the buckets in a window are the first
-within_front : (W a : ℕ) (bs : List Entry) → Falling (stamps bs) → take (length (within W a bs)) bs ≡ within W a bs
+pub within_front : (W a : ℕ) (bs : List Entry) → Falling (stamps bs) → take (length (within W a bs)) bs ≡ within W a bs
 within_front W a [] f = refl
 within_front W a (b ∷ bs) f =
     cond_both (ltb a (b.stamp + W)) (b ∷ within W a bs) (within W a bs) (λ (r : List Entry). take (length r) (b ∷ bs) ≡ r)
     (λ _. ap {B = List Entry} (λ r. b ∷ r) (within_front W a bs f.1))
     (λ q. let out : within W a bs ≡ [] = none_after W a b.stamp bs f.0 (ltb-false a (b.stamp + W) q) in rw out refl)
 
-length_within : (W a : ℕ) (bs : List Entry) → length (within W a bs) ≤ length bs
+pub length_within : (W a : ℕ) (bs : List Entry) → length (within W a bs) ≤ length bs
 length_within W a bs =
     omega (arith, length-filter_both (λ b. ltb a (b.stamp + W)) (λ b. not (ltb a (b.stamp + W))) (λ _. refl) bs)
 

@@ -56,7 +56,7 @@ start l r v t kept xs one small room form fits =
     }
 
 -- zero entries are zeros
-all_zeros : (xs : List Entry) → every is_zero xs ≡ true → xs ≡ zeros (length xs)
+pub all_zeros : (xs : List Entry) → every is_zero xs ≡ true → xs ≡ zeros (length xs)
 all_zeros [] h = refl
 all_zeros (x ∷ xs) h =
     let all = and_parts (is_zero x) (every is_zero xs) h in

@@ -32,7 +32,7 @@ own_row e [] older h = h
 own_row e (s ∷ ss) older h =
     cond-true (eqb e e) (s ∷ own_of e (row e ss older)) [] (eq-eqb e e refl) ∙ ap {B = List ℕ} (λ r. s ∷ r) (own_row e ss older h)
 
-own_flat : (l e : ℕ) (levels : List (List ℕ)) → Canonical l levels → own_of e (flat e levels) ≡ head_of levels
+pub own_flat : (l e : ℕ) (levels : List (List ℕ)) → Canonical l levels → own_of e (flat e levels) ≡ head_of levels
 own_flat l e [] c = refl
 own_flat l e (ss ∷ rest) c = own_row e ss (flat (suc e) rest) (own_above l e rest c.3)
 
@@ -44,7 +44,7 @@ rest_flat : (e : ℕ) (levels : List (List ℕ)) → drop (length (head_of level
 rest_flat e [] = refl
 rest_flat e (ss ∷ rest) = drop-row e ss (flat (suc e) rest) ∙ ap (λ (k : ℕ). flat k rest) (sym (add-one e))
 
-row-map : (e : ℕ) (ss : List ℕ) (older : List Entry) → row e ss older ≡ map (of_size e) ss ++ older
+pub row-map : (e : ℕ) (ss : List ℕ) (older : List Entry) → row e ss older ≡ map (of_size e) ss ++ older
 row-map e [] older = refl
 row-map e (s ∷ ss) older = ap {B = List Entry} (λ r. of_size e s ∷ r) (row-map e ss older)
 
@@ -54,7 +54,7 @@ head_inside e (ss ∷ rest) =
     let older : List Entry = flat (suc e) rest in
     omega (arith, ap length (row-map e ss older), length-append (map (of_size e) ss) older, length-map ss (of_size e))
 
-head_few : (l : ℕ) (levels : List (List ℕ)) → Canonical l levels → length (head_of levels) ≤ l + 1
+pub head_few : (l : ℕ) (levels : List (List ℕ)) → Canonical l levels → length (head_of levels) ≤ l + 1
 head_few l [] c = omega arith
 head_few l (ss ∷ rest) c = c.1
 
@@ -76,7 +76,7 @@ len_stay l m t olds =
     )
 
 -- the new buckets and the held stamps at a level: which stay, and what goes up
-raise_law : (l t m : ℕ) (olds : List ℕ) (levels : List (List ℕ)) → Canonical l levels → 1 ≤ m + length (newer olds ++ head_of levels)
+pub raise_law : (l t m : ℕ) (olds : List ℕ) (levels : List (List ℕ)) → Canonical l levels → 1 ≤ m + length (newer olds ++ head_of levels)
     → push_all l (incoming m t olds) levels ≡ stay l m t (newer olds ++ head_of levels) ∷ push_all l
     (replicate (ups l m (newer olds ++ head_of levels)) t ++ up_olds l m (newer olds ++ head_of levels)) (rest_of levels)
 raise_law l t m olds [] c h =
@@ -110,7 +110,7 @@ module _ {turn : Turn} {olds : List ℕ} {xs : List Entry} {levels : List (List 
   abbrev row_at : List Entry
   row_at = map (of_size turn.exponent) (stay turn.half turn.new turn.tick stamps_at)
 
-  its_own : own_of turn.exponent (slice_range xs turn.read turn.end) ≡ head_of levels
+  pub its_own : own_of turn.exponent (slice_range xs turn.read turn.end) ≡ head_of levels
   its_own = ap (own_of turn.exponent) ready.whole ∙ own_flat turn.half turn.exponent levels ready.canon
 
   -- the code has room for what it gathers
@@ -125,7 +125,7 @@ module _ {turn : Turn} {olds : List ℕ} {xs : List Entry} {levels : List (List 
     length-take (turn.end - turn.read) (drop turn.read xs),
   )
 
-  held_few : length olds ≤ 2 * turn.half + 2 → length stamps_at ≤ 2 * turn.half + 2
+  pub held_few : length olds ≤ 2 * turn.half + 2 → length stamps_at ≤ 2 * turn.half + 2
   held_few k = omega (arith, length-append (newer olds) (head_of levels), length-newer_is olds, head_few turn.half levels ready.canon)
 
   -- nothing comes in: what is there only moves
@@ -146,7 +146,7 @@ module _ {turn : Turn} {olds : List ℕ} {xs : List Entry} {levels : List (List 
   some_held h = omega (arith, h, length-newer_is olds, length-append (newer olds) (head_of levels))
 
   module _ (some : 1 ≤ turn.new + length stamps_at) where
-    next_law : raised turn olds levels ≡ row_at ++ raised next go_up (rest_of levels)
+    pub next_law : raised turn olds levels ≡ row_at ++ raised next go_up (rest_of levels)
     next_law = ap (flat turn.exponent) (raise_law turn.half turn.tick turn.new olds levels ready.canon some)
         ∙ row-map turn.exponent (stay turn.half turn.new turn.tick stamps_at) _
         ∙ ap (λ (e : ℕ). row_at ++ flat e (push_all turn.half (incoming next.new turn.tick go_up) (rest_of levels))) (sym (add-one turn.exponent))
@@ -154,11 +154,11 @@ module _ {turn : Turn} {olds : List ℕ} {xs : List Entry} {levels : List (List 
     row_length : length row_at ≡ stay_at
     row_length = length-map (stay turn.half turn.new turn.tick stamps_at) (of_size turn.exponent) ∙ len_stay turn.half turn.new turn.tick stamps_at
 
-    next_length : length (raised turn olds levels) ≡ stay_at + length (raised next go_up (rest_of levels))
+    pub next_length : length (raised turn olds levels) ≡ stay_at + length (raised next go_up (rest_of levels))
     next_length = omega (arith, ap length next_law, length-append row_at (raised next go_up (rest_of levels)), row_length)
 
     -- the level above is ready for its turn, and less is left to do
-    next_ready : Ready next go_up xs (rest_of levels)
+    pub next_ready : Ready next go_up xs (rest_of levels)
     next_ready = record {
       whole = between_is xs next.read turn.end ∙ sym (drop-drop (length (head_of levels)) turn.read (take turn.end xs))
           ∙ ap (drop (length (head_of levels))) (sym (between_is xs turn.read turn.end) ∙ ready.whole) ∙ rest_flat turn.exponent levels;

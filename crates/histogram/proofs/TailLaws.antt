@@ -15,7 +15,7 @@ use Rattle.theory.specs.Sound.{never_rise, zero_entry}
 use Rattle.theory.specs.declared.entries.Entry.{Entry}
 
 -- one bucket of a level
-level_yes : (e last : ℕ) (b : Entry) (bs : List Entry) → b.exponent ≡ e → b.stamp ≤ last → levelled e last (b ∷ bs) ≡ levelled e b.stamp bs
+pub level_yes : (e last : ℕ) (b : Entry) (bs : List Entry) → b.exponent ≡ e → b.stamp ≤ last → levelled e last (b ∷ bs) ≡ levelled e b.stamp bs
 level_yes e last b bs x s = ap₂ (λ (p t : Bool). (p && t) && levelled e b.stamp bs) (eq-eqb b.exponent e x) (le-leb b.stamp last s)
 
 -- the stamp before what follows xs

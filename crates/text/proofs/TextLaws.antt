@@ -189,8 +189,11 @@ pub record Told (w : ℕ → ℕ) (s : List ℕ) (r : Result ℕ TextFault) : Ty
   pub value : r ≡ weighed w s
   pub exact : Answered (Weighs w s) s r
 
-told : (w : ℕ → ℕ) (s : List ℕ) (r : Result ℕ TextFault) → Verdict (Weighs w s) s r → Told w s r
-told w s r h = record { value = verdict-weighed w s r h; exact = answered (Weighs w s) s (one_weight w s) (λ v p. (p.0, p.1)) r h }
+pub weight_answered : (w : ℕ → ℕ) (s : List ℕ) (r : Result ℕ TextFault) → Verdict (Weighs w s) s r → Answered (Weighs w s) s r
+weight_answered w s = answered (Weighs w s) s (one_weight w s) (λ v p. (p.0, p.1))
+
+pub told : (w : ℕ → ℕ) (s : List ℕ) (r : Result ℕ TextFault) → Verdict (Weighs w s) s r → Told w s r
+told w s r h = record { value = verdict-weighed w s r h; exact = weight_answered w s r h }
 
 -- what the loop has read of s: the characters up to rest, which weigh total
 pub record Sofar (w : ℕ → ℕ) (s rest : List ℕ) (total : ℕ) : Type 0 where
