@@ -11,10 +11,10 @@ pub(crate) fn all_zero(part: &[Entry]) -> bool
     ensures value { result ≡ every is_zero part.now }
 {
     // No early exit: with `all(|entry| *entry == NO_BUCKET)`, a line took 6 to 19 % longer. One bit that is not 0 stays.
-    let bits = part
-        .iter()
-        .fold(0, |bits, entry| bits | entry.stamp | entry.exponent);
-    bits == 0
+    let (stamps, exponents) = part.iter().fold((0, 0), |(stamps, exponents), entry| {
+        (stamps | entry.stamp, exponents | entry.exponent)
+    });
+    stamps | exponents == 0
 }
 
 /// The stamp of the last bucket, `last` without any; none where a bucket has another exponent than `e` or its stamp rises, from
