@@ -1,2 +1,3 @@
+mod Copied
 mod FirstEnd
 pub mod LineLaws

@@ -5,9 +5,11 @@
 //! holds, and where the piece goes on, the line has ended there, and the next begins after its byte 10.
 #![tactic(auto)]
 
-ghost use Rattle.std.specs.Prelude.{◌≡◌, ◌≤◌, length};
+ghost use Rattle.std.specs.Prelude.{◌≡◌, ◌≤◌, [], ◌++◌, length, take, ◌==◌};
+ghost use Rattle.lines.specs.Held.{held};
 ghost use Rattle.lines.specs.Lines.{line_length};
 
+use arrayvec::ArrayVec;
 pub use held::HeldLine;
 use memchr::memchr;
 
@@ -24,6 +26,51 @@ pub fn line_length(bytes: &[u8]) -> usize
     ensures within { result ≤ length bytes.now }
 {
     memchr(LINE_END, bytes).unwrap_or(bytes.len())
+}
+
+impl<const LIMIT: usize> HeldLine<LIMIT> {
+    /// A line of which nothing has come.
+    pub fn new() -> Self
+        ensures made { held result ≡ [] }
+    {
+        HeldLine {
+            bytes: ArrayVec::from_array_in((), [0; LIMIT]),
+            len: 0,
+        }
+    }
+
+    /// The bytes that are kept of the line.
+    pub fn bytes(&self) -> &[u8]
+        ensures value { result.now ≡ held self.now }
+        ensures fits { length result.now ≤ LIMIT }
+    {
+        let all = self.bytes.as_slice();
+        &all[0..self.len]
+    }
+
+    /// Whether no byte is kept.
+    pub fn is_empty(&self) -> bool
+        ensures value { result ≡ (length (held self.now) == 0) }
+    {
+        self.bytes().is_empty()
+    }
+
+    /// Adds the next piece of the line, and keeps the first `LIMIT` bytes of the whole.
+    pub fn extend(&mut self, piece: &[u8])
+        ensures after { held self.new ≡ take LIMIT (held self.old ++ piece.now) }
+    {
+        let start = self.len;
+        let more = piece.len().min(LIMIT - start);
+        self.bytes.as_mut_slice()[start..start + more].copy_from_slice(&piece[..more]);
+        self.len = start + more;
+    }
+
+    /// Begins the next line: nothing is kept.
+    pub fn clear(&mut self)
+        ensures after { held self.new ≡ [] }
+    {
+        self.len = 0;
+    }
 }
 
 #[cfg(test)]
