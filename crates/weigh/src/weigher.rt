@@ -2,6 +2,7 @@
 //!
 //! What prints says in its contract which text it appends. The texts differ, so that no type could say it for all.
 ghost use Rattle.std.specs.Prelude.{◌≡◌, ℕ, List, [], ◌++◌, take, string_bytes, OnOk};
+ghost use Rattle.lines.specs.Held.{held};
 ghost use Rattle.weigh.specs.Reports.{line_weights, no_lines, noted, next_line, report_text};
 ghost use Rattle.weigh.specs.Streams.{TakenIn, printed_last, OneStream};
 
@@ -25,7 +26,7 @@ pub struct Weigher {
 impl Weigher {
     /// A weigher to which nothing has come.
     pub fn new() -> Weigher
-        ensures line { result.line ≡ [] }
+        ensures line { held result.line ≡ [] }
         ensures tally { result.tally ≡ no_lines }
     {
         Weigher {
@@ -38,7 +39,7 @@ impl Weigher {
     ///
     /// `begun` is what has come of the line that has not ended yet, of which the first bytes are held.
     pub fn take_in(&mut self, piece: &[u8], out: &mut String) -> fmt::Result
-        ensures { (begun : List ℕ) → self.old.line ≡ take 241 begun → OnOk result (TakenIn begun piece.now self.old.tally (string_bytes out.old) self.new.tally (string_bytes out.new) self.new.line) }
+        ensures { (begun : List ℕ) → held self.old.line ≡ take 241 begun → OnOk result (TakenIn begun piece.now self.old.tally (string_bytes out.old) self.new.tally (string_bytes out.new) (held self.new.line)) }
     {
         let mut rest = piece;
         loop {
@@ -54,7 +55,7 @@ impl Weigher {
 
     /// Ends the stream: a last line that nothing ended is reported, and then the summary.
     pub fn finish(&mut self, out: &mut String) -> fmt::Result
-        ensures { (begun : List ℕ) → self.old.line ≡ take 241 begun → OnOk result (string_bytes out.new ≡ string_bytes out.old ++ printed_last self.old.tally begun) }
+        ensures { (begun : List ℕ) → held self.old.line ≡ take 241 begun → OnOk result (string_bytes out.new ≡ string_bytes out.old ++ printed_last self.old.tally begun) }
     {
         if !self.line.is_empty() {
             self.end_line(out)?;
@@ -65,9 +66,9 @@ impl Weigher {
 
     /// Reports the line that is held, notes it, and begins the next.
     fn end_line(&mut self, out: &mut String) -> fmt::Result
-        ensures printed { OnOk result (string_bytes out.new ≡ string_bytes out.old ++ report_text (next_line self.old.tally) (line_weights self.old.line)) }
-        ensures noted { OnOk result (self.new.tally ≡ noted self.old.tally (line_weights self.old.line)) }
-        ensures cleared { OnOk result (self.new.line ≡ []) }
+        ensures printed { OnOk result (string_bytes out.new ≡ string_bytes out.old ++ report_text (next_line self.old.tally) (line_weights (held self.old.line))) }
+        ensures noted { OnOk result (self.new.tally ≡ noted self.old.tally (line_weights (held self.old.line))) }
+        ensures cleared { OnOk result (held self.new.line ≡ []) }
     {
         let report = Report {
             number: self.tally.next_line(),
