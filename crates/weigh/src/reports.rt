@@ -61,7 +61,10 @@ impl fmt::Display for Report {
     fn fmt<W: fmt::Write>(&self, f: &mut fmt::Formatter<W>) -> fmt::Result {
         let number = self.number;
         match self.outcome {
-            Ok(weights) => write!(f, "{number}: {weights}"),
+            Ok(weights) => {
+                let Weights { counting, free } = weights;
+                write!(f, "{number}: {counting} with blanks, {free} without")
+            }
             Err(fault) => {
                 let refusal = fault.number();
                 let place = fault.place();
