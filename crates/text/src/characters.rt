@@ -49,12 +49,12 @@ pub fn read_char(rest: &[u8]) -> Result<(u32, usize), TextFault>
     ensures reads { Reads rest.now result }
     ensures exact { ReadsExactly rest.now result }
 {
-    match *rest {
+    match rest {
         // Returned from here, since the value of the match is copied once more: that made weighing lines 6 to 10 % slower.
-        [a, ..] if a < FIRST_LATER => return Ok((u32::from(a), 1)),
-        [a, b, ..] if a < LEAD_OF_THREE => of_two(a, b),
-        [a, b, c, ..] if a < LEAD_OF_FOUR => of_three(a, b, c),
-        [a, b, c, d, ..] => of_four(a, b, c, d),
+        [a, ..] if *a < FIRST_LATER => return Ok((u32::from(*a), 1)),
+        [a, b, ..] if *a < LEAD_OF_THREE => of_two(*a, *b),
+        [a, b, c, ..] if *a < LEAD_OF_FOUR => of_three(*a, *b, *c),
+        [a, b, c, d, ..] => of_four(*a, *b, *c, *d),
         _ => Err(MALFORMED),
     }
 }
