@@ -19,13 +19,53 @@ pub mod laws;
 /// The byte that ends a line, and is not part of it.
 pub const LINE_END: u8 = 10;
 
+/// How many of a line's first bytes are looked at one by one before all else.
+const NEAR: usize = 16;
+
+/// How many bytes have no line end where a search of many at a time is worth its start.
+const FAR: usize = 32;
+
 /// How many bytes stand before the first [`LINE_END`]: all of them if there is none.
-#[tactic(auto, using(crate::proofs::FirstEnd::first_end))]
+#[inline]
 pub fn line_length(bytes: &[u8]) -> usize
     ensures value { result ≡ line_length bytes.now }
     ensures within { result ≤ length bytes.now }
 {
-    memchr(LINE_END, bytes).unwrap_or(bytes.len())
+    let Some((near, rest)) = bytes.split_first_chunk::<NEAR>() else {
+        return near_length(bytes);
+    };
+    let length = near_length(near);
+    if length < NEAR {
+        return length;
+    }
+    NEAR + rest_length(rest)
+}
+
+/// The same, by the way that is faster for its length.
+#[inline(never)]
+#[tactic(auto, using(crate::proofs::FirstEnd::first_end))]
+fn rest_length(rest: &[u8]) -> usize
+    ensures value { result ≡ line_length rest.now }
+    ensures within { result ≤ length rest.now }
+{
+    match rest.first_chunk::<FAR>() {
+        Some(first) if !first.contains(&LINE_END) => memchr(LINE_END, rest).unwrap_or(rest.len()),
+        _ => near_length(rest),
+    }
+}
+
+/// The same, byte by byte. Of an array, whose length is known, the loop is laid out in full.
+#[inline(always)]
+fn near_length(bytes: &[u8]) -> usize
+    ensures value { result ≡ line_length bytes.now }
+    ensures within { result ≤ length bytes.now }
+{
+    for (i, b) in bytes.iter().enumerate() {
+        if *b == LINE_END {
+            return i;
+        }
+    }
+    bytes.len()
 }
 
 impl<const LIMIT: usize> HeldLine<LIMIT> {
