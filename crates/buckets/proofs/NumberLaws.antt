@@ -1,20 +1,22 @@
--- Laws of the number that a line spells.
-use Rattle.std.proofs.Common.{◌≡◌, ◌≢◌, ℕ, Bool, true, false, leb, ◌∷◌, [], zero, suc, ◌+◌, ◌^◌, ◌<◌, ◌≤◌, List, length, get_or, Some, None, Result, Ok, Err, decimal, sym, refl, ap, ◌∙◌, subst, ⊎_elim, arith}
+-- Laws of reading a number digit by digit.
+use Rattle.std.proofs.Common.{◌≡◌, ℕ, zero, suc, ◌+◌, ◌-◌, ◌*◌, ◌^◌, ◌<◌, ◌≤◌, List, length, get_or, take, Some, None, decimal, sym, refl, ap, ◌∙◌, subst, ⊎_elim, arith}
 use Rattle.buckets.specs.Numbers.{Spells, number_below, number_up_to, NumberRead}
-use Rattle.std.proofs.lemmas.Fmt.{IsAscii-decimal, decimal-digits_value, first_decimal, decimal_digit, decimal_injective, parse-decimal}
+use Rattle.std.proofs.lemmas.Fmt.{digits_decimal, digits_value-decimal, decimal-digits_value, decimal_nonempty, first_decimal, decimal_digit, decimal_injective}
+use Rattle.std.proofs.lemmas.Int.Digits.{digits_value_more, digits_more}
 use Rattle.std.proofs.lemmas.Slice.Eq.{bytes_eq-Decides}
-use Rattle.std.proofs.lemmas.Str.{IsUtf8-from_ascii}
-use Rattle.std.proofs.lemmas.Str.Parse.{IsNumeralModel, numerals_by_value, tells_digits, parse_plain}
-use Rattle.std.proofs.lemmas.Option.{same_Some}
-use Rattle.std.proofs.lemmas.Result.{OkIff-at_ok}
-use Rattle.std.proofs.lemmas.Bool.{cond_both, both_ways, cases_lt, leb-true, leb-false}
-use Rattle.std.specs.Str.Parse.{AllDigits, digits_value, ParsesUnsigned}
-use Rattle.std.specs.Bool.{then_some}
-use Rattle.std.specs.Result.{result_ok}
-use Rattle.std.specs.Str.{IsUtf8, bytes_eq}
+use Rattle.std.proofs.lemmas.List.{take_all}
+use Rattle.std.proofs.lemmas.Str.Parse.{IsNumeralModel, numerals_by_value, tells_digits, tells_by_index, digits_value-take-le}
+use Rattle.std.proofs.lemmas.Bool.{cond-true, cond-false, cond_both, both_ways, lt-ltb, le-ltb, cases_lt}
+use Rattle.std.specs.Str.Parse.{AllDigits, digits_value}
+use Rattle.std.specs.Int.{IsInRange}
+use Rattle.std.specs.Char.{digit_value}
+use Rattle.std.specs.Str.{bytes_eq}
 
 own : IsNumeralModel (AllDigits 10) (digits_value 10)
 own = numerals_by_value (AllDigits 10) tells_digits
+
+digit_is : (c : ℕ) → 48 ≤ c → c ≤ 57 → digit_value c ≡ c - 48
+digit_is c g h = cond-false _ _ _ (le-ltb c 48 g) ∙ cond-true _ _ _ (lt-ltb c 58 (omega arith))
 
 -- a line spells one number at most, which is found among all of them
 below_some : (line : List ℕ) (m n : ℕ) → m ≤ 2 ^ 64 → n < m → Spells line n → number_below m line ≡ Some n
@@ -34,10 +36,12 @@ below_none line (suc k) none =
     (λ t. absurd (none k (omega arith) ((bytes_eq-Decides line (decimal k)).0 t)))
     (λ _. below_none line k (λ n l. none n (omega arith)))
 
--- where `ok` gives a value, it is the one within
-pub ok_is : {T E : Type 0} (r : Result T E) (x : T) → result_ok r ≡ Some x → r ≡ Ok x
-ok_is (Ok y) x e = ap Ok (same_Some y x e)
-ok_is (Err y) x e = absurd cc
+-- what the loop has read: i digits, and the number that they come to, which is within bounds
+pub record Begun (line : List ℕ) (most i number : ℕ) : Type 0 where
+  pub within : i ≤ length line
+  pub digits : AllDigits 10 (take i line)
+  pub is : number ≡ digits_value 10 (take i line)
+  pub small : number ≤ most
 
 module _ (line : List ℕ) (most : ℕ) (fits : most < 2 ^ 64) where
   found : (n : ℕ) → n ≤ most → Spells line n → NumberRead line most (Some n)
@@ -59,31 +63,44 @@ module _ (line : List ℕ) (most : ℕ) (fits : most < 2 ^ 64) where
     value = sym (below_none line (suc most) (λ n l. none n (omega arith)));
   }
 
-  -- a number begins with no sign, and only 0 begins with a zero
-  pub refused_front : get_or line 0 0 ≤ 48 → (length line ≡ 1 → get_or line 0 0 < 48) → NumberRead line most None
-  refused_front small lone = refused (λ n le e.
+  pub refused_empty : length line ≡ 0 → NumberRead line most None
+  refused_empty h = refused (λ n le e. omega (arith, decimal_nonempty n (omega arith), ap length e))
+
+  -- only 0 begins with a zero
+  pub refused_zero : get_or line 0 0 ≡ 48 → 1 < length line → NumberRead line most None
+  refused_zero h long = refused (λ n le e.
       let first : get_or line 0 0 ≡ get_or (decimal n) 0 0 = ap (λ (l : List ℕ). get_or l 0 0) e in
-      ⊎_elim (λ (l : n < 1). let is : line ≡ (48 + n) ∷ [] = e ∙ decimal_digit n (omega arith) in omega (arith, lone (ap length is), ap (λ (l : List ℕ). get_or l 0 0) is))
+      ⊎_elim (λ (l : n < 1). omega (arith, ap length (e ∙ decimal_digit n (omega arith))))
       (λ (g : 1 ≤ n). omega (arith, first, first_decimal n g (omega arith))) (cases_lt n 1))
 
-  -- the digits of a number are text
-  pub refused_text : (IsUtf8 line → ⊥) → NumberRead line most None
-  refused_text none = refused (λ n le e. none (subst IsUtf8 (sym e) (IsUtf8-from_ascii (decimal n) (IsAscii-decimal n (omega arith)))))
+  pub refused_byte : (i : ℕ) → i < length line → (IsInRange 48 57 (get_or line i 0) → ⊥) → NumberRead line most None
+  refused_byte i l none = refused (λ n le e.
+      none (subst (λ (ds : List ℕ). IsInRange 48 57 (get_or ds i 0)) (sym e)
+      (digits_decimal (numerals_by_value _ tells_by_index) n (omega arith) i (omega (arith, ap length e)))))
 
-  -- they parse as the number
-  pub refused_parse : {E : Type 0} (r : Result ℕ E) → ParsesUnsigned 64 10 line r → result_ok r ≡ None → NumberRead line most None
-  refused_parse r h none = refused (λ n le e. let ok = parse-decimal 64 n line r (omega arith) (omega arith) e h in cc)
+  begun_value : (i number : ℕ) → Begun line most i number → i < length line → 48 ≤ get_or line i 0 → get_or line i 0 ≤ 57
+      → number * 10 + (get_or line i 0 - 48) ≡ digits_value 10 (take (i + 1) line)
+  begun_value i number h l g k =
+      (λ j. h.is j * 10 + sym (digit_is (get_or line i 0) g k) j) ∙ sym (digits_value_more 10 line i l)
 
-  -- what `then_some` gives, by cases
-  within : (n : ℕ) (b : Bool) → (b ≡ true → NumberRead line most (Some n)) → (b ≡ false → NumberRead line most None) → NumberRead line most (then_some b n)
-  within n true some none = some refl
-  within n false some none = none refl
+  pub refused_passed : (i number : ℕ) → Begun line most i number → i < length line → 48 ≤ get_or line i 0 → get_or line i 0 ≤ 57
+      → most < number * 10 + (get_or line i 0 - 48) → NumberRead line most None
+  refused_passed i number h l g k passed = refused (λ n le e.
+      omega (arith, begun_value i number h l g k, digits_value-take-le 10 line (i + 1) (omega arith), ap (digits_value 10) e, digits_value-decimal own n (omega arith)))
 
-  -- what parses spells the number, if it begins with no sign and with no zero but that of 0
-  pub parsed : {E : Type 0} (r : Result ℕ E) → ParsesUnsigned 64 10 line r → (n : ℕ) → result_ok r ≡ Some n → get_or line 0 0 ≢ 43 → (get_or line 0 0 ≡ 48 → length line ≡ 1)
-      → NumberRead line most (then_some (leb n most) n)
-  parsed r h n ok plain lead =
-      let digits = OkIff-at_ok r _ _ n (parse_plain own 64 line r h plain) (ok_is r n ok) in
-      let spells : Spells line n = sym (ap decimal digits.1 ∙ decimal-digits_value own line digits.0.0 digits.0.1 lead digits.0.2) in
-      within n (leb n most) (λ t. found n (leb-true n most t) spells)
-      (λ f. refused (λ m le e. omega (arith, leb-false n most f, decimal_injective n m (omega (arith, digits.0.2, digits.1)) (omega arith) (sym spells ∙ e))))
+  pub begun_more : (i number : ℕ) → Begun line most i number → i < length line → 48 ≤ get_or line i 0 → get_or line i 0 ≤ 57
+      → number * 10 + (get_or line i 0 - 48) ≤ most → Begun line most (i + 1) (number * 10 + (get_or line i 0 - 48))
+  begun_more i number h l g k small = record {
+    within = omega arith;
+    digits = digits_more 10 line i l h.digits (omega (arith, digit_is (get_or line i 0) g k));
+    is = begun_value i number h l g k;
+    small = small;
+  }
+
+  pub begun_all : (i number : ℕ) → Begun line most i number → length line ≤ i → 0 < length line → (get_or line 0 0 ≡ 48 → length line ≡ 1)
+      → NumberRead line most (Some number)
+  begun_all i number h l some lead =
+      let all = take_all i line l in
+      let digits : AllDigits 10 line = subst (AllDigits 10) all h.digits in
+      let is : number ≡ digits_value 10 line = h.is ∙ ap (digits_value 10) all in
+      found number h.small (sym (ap decimal is ∙ decimal-digits_value own line digits some lead (omega (arith, h.small))))

@@ -5,10 +5,25 @@ ghost use Rattle.buckets.specs.Numbers.{NumberRead};
 pub fn read_number(line: &[u8], most: u64) -> Option<u64>
     ensures { NumberRead line.now most result }
 {
-    // A number has no sign, and only 0 itself begins with a zero.
-    if let [b'0', _, ..] | [b'+', ..] = line {
+    if line.is_empty() {
         return None;
     }
-    let number = str::from_utf8(line).ok()?.parse::<u64>().ok()?;
-    (number <= most).then_some(number)
+    // Only 0 itself begins with a zero.
+    if line[0] == b'0' && line.len() > 1 {
+        return None;
+    }
+    let mut number: u64 = 0;
+    for byte in line {
+        let byte = *byte;
+        if byte < b'0' || byte > b'9' {
+            return None;
+        }
+        let digit = u64::from(byte - b'0');
+        // The digits so far come to more than `most`, and further ones only add to that.
+        if number > most / 10 || digit > most - number * 10 {
+            return None;
+        }
+        number = number * 10 + digit;
+    }
+    Some(number)
 }
