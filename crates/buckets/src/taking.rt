@@ -1,7 +1,7 @@
 //! What a line does.
 //!
 //! What prints says in its contract which text it appends. The texts differ, so that no type could say it for all.
-ghost use Rattle.std.specs.Prelude.{◌≡◌, ℕ, List, ◌++◌, string_bytes, OnOk};
+ghost use Rattle.std.specs.Prelude.{◌≡◌, ℕ, List, ◌++◌, string_bytes, OnOk, IsSome};
 ghost use Rattle.buckets.specs.Counts.{BoardRead, CountAdded, LineTaken, summed};
 ghost use Rattle.buckets.specs.Numbers.{number_up_to};
 
@@ -29,16 +29,19 @@ fn add_count(board: &mut Board, line: &[u8]) -> Result<(), Refusal>
 }
 
 /// Takes in a line: as long as there is no board it is to be k, and then a count of arrivals.
+///
+/// A board that there was is still there, also where printing fails.
 pub fn take_line(board: &mut Option<Board>, line: &[u8], at: u64, out: &mut String) -> fmt::Result
     ensures taken { OnOk result ((text : List ℕ) × (string_bytes out.new ≡ string_bytes out.old ++ text) × LineTaken at board.old board.new text line.now) }
+    ensures stays { IsSome board.old → IsSome board.new }
 {
     match board {
         None => match read_board(line) {
             Ok(begun) => *board = Some(begun),
             Err(refusal) => refuse(out, at, refusal)?,
         },
-        Some(board) => match add_count(board, line) {
-            Ok(()) => writeln!(out, "{}", board.sizes())?,
+        Some(kept) => match add_count(kept, line) {
+            Ok(()) => writeln!(out, "{}", kept.sizes())?,
             Err(refusal) => refuse(out, at, refusal)?,
         },
     }
