@@ -10,7 +10,8 @@ use theory::Entry;
 pub(crate) fn all_zero(part: &[Entry]) -> bool
     ensures value { result ≡ every is_zero part.now }
 {
-    // No early exit: with `all(|entry| *entry == NO_BUCKET)`, a line took 6 to 19 % longer. One bit that is not 0 stays.
+    // No early exit, and stamps and exponents apart: with both in one number a call on 460 entries took 1.2 to 1.4 times as long,
+    // and with `all(|entry| *entry == NO_BUCKET)` a line took 6 to 19 % longer than that. One bit that is not 0 stays.
     let (stamps, exponents) = part.iter().fold((0, 0), |(stamps, exponents), entry| {
         (stamps | entry.stamp, exponents | entry.exponent)
     });
