@@ -61,9 +61,10 @@ abbrev pub stretch_after : Histogram → (t v : ℕ) → List Entry → List Ent
 stretch_after was t v stretch =
     changed (refusal was t v stretch) stretch (padded (length stretch) (buckets_after was t v stretch))
 
--- entered arrivals leave the stretch sound; and a histogram of arrivals becomes one of these and the new ones
+-- entered arrivals leave the settings as they were and the stretch sound; and a histogram of arrivals becomes one of these and the new ones
 abbrev pub Entered : Histogram → (t v : ℕ) → List Entry → Result (Unit {0}) EnterFault → Histogram → List Entry → Type 0
 Entered was t v old (Err f) is new = Unit {0}
 Entered was t v old (Ok done) is new =
-    (is_sound is new ≡ true)
+    (is.settings ≡ was.settings)
+    × (is_sound is new ≡ true)
     × ((us : List ℕ) → HistogramOf was us old → HistogramOf is (replicate v t ++ us) new)

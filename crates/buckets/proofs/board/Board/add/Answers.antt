@@ -19,7 +19,7 @@ invariant_of-self c =
       ticks = omega (arith, is.tick, left, b.ticks);
       counts = omega (arith, is.tick, b.counts, c.requires.small);
       whole = c.enter.auto.stretch ∙ b.whole;
-      sound = (rw (e.value ∙ next_ok b c.args.count c.requires.small left) at e.keeps).0;
+      sound = (rw (e.value ∙ next_ok b c.args.count c.requires.small left) at e.keeps).1;
       sum = is.sum;
     }
 

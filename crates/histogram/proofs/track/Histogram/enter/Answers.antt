@@ -81,6 +81,7 @@ returns c =
           ∙ ap (λ (r : Option EnterFault). changed {T = Histogram} r was (record { settings = s; standing = standing_after was t v xs })) (sym none);
       after = laid_out ∙ ap (λ (r : Option EnterFault). changed {T = List Entry} r xs (padded (length xs) (buckets_after was t v xs))) (sym none);
       keeps = (
+        refl,
         entered-sound was t v xs sound later a.fits c.insert-buckets.result c.insert-buckets.new.stretch many laid_out,
         entered_keeps was t v xs sound later a.fits c.insert-buckets.result c.insert-buckets.new.stretch many laid_out,
       );
