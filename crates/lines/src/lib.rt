@@ -19,10 +19,10 @@ pub mod laws;
 /// The byte that ends a line, and is not part of it.
 pub const LINE_END: u8 = 10;
 
-/// How many of a line's first bytes are looked at one by one before all else.
+/// How many of a line's first bytes are looked at one by one: a search of many at a time takes longer to begin.
 const NEAR: usize = 16;
 
-/// How many bytes have no line end where a search of many at a time is worth its start.
+/// How many more bytes without a line end make such a search worth its start.
 const FAR: usize = 32;
 
 /// How many bytes stand before the first [`LINE_END`]: all of them if there is none.
@@ -41,7 +41,7 @@ pub fn line_length(bytes: &[u8]) -> usize
     NEAR + rest_length(rest)
 }
 
-/// The same, by the way that is faster for its length.
+/// The same, by a search of many bytes at a time where the line does not end in the first of them.
 #[inline(never)]
 #[tactic(auto, using(crate::proofs::FirstEnd::first_end))]
 fn rest_length(rest: &[u8]) -> usize
