@@ -1,8 +1,13 @@
 -- What is kept of a line after a piece is copied to its end.
-use Rattle.std.proofs.Common.{◌≡◌, ℕ, ◌+◌, ◌-◌, ◌≤◌, min, List, ◌++◌, length, take, sym, ap, ◌∙◌, ⊎_elim, arith}
+use Rattle.std.proofs.Common.{◌≡◌, ℕ, ◌+◌, ◌-◌, ◌≤◌, min, List, ◌++◌, length, take, sym, ap, ◌∙◌, ⊎_elim, arith, rules}
+use borrow.Rule.Slice.PartMut.{put_mid}
 use lib.Seq.{paste, take-paste, take-append-add}
 use Rattle.std.proofs.lemmas.List.{length-take-le, take_all}
 use Rattle.std.proofs.lemmas.Bool.{cases_lt}
+use Rattle.std.proofs.lemmas.List.Edits.{length-paste}
+use Rattle.std.specs.List.{refill}
+use Rattle.arrayvec.proofs.ArrayVecLemmas.{items-with_items}
+use Rattle.std.proofs.lemmas.Slice.{overwrites}
 
 -- the first bytes of a piece, no more than it has
 take_min : (n : ℕ) (xs : List ℕ) → take (min (length xs) n) xs ≡ take n xs
@@ -34,3 +39,16 @@ paste_kept limit len more bytes piece after whole fits room copied =
     ∙ take-paste bytes len piece more (omega arith) (omega arith)
     ∙ ap (λ n. take len bytes ++ take n piece) (sym some)
     ∙ sym both
+
+-- the same of a part that is written at `at` over `room` bytes, when `now` bytes are kept after it
+pub put_kept : (limit len more at room now : ℕ) (bytes piece lent part : List ℕ)
+    → length bytes ≡ limit → len ≤ limit → more ≡ min (length piece) (limit - len)
+    → at ≡ len → room ≡ more → now ≡ len + more → lent ≡ bytes → part ≡ take more piece
+    → take now (refill (length bytes) bytes (put_mid at room lent part)) ≡ take limit (take len bytes ++ piece)
+put_kept limit len more at room now bytes piece lent part whole fits is a r n l p =
+    let put : put_mid at room lent part ≡ paste bytes len piece more = rw (a, r, l, p) (search (rules, overwrites)) in
+    let same : length (paste bytes len piece more) ≡ length bytes = length-paste bytes len piece more (omega arith) (omega arith) in
+    let after : refill (length bytes) bytes (put_mid at room lent part) ≡ paste bytes len piece more =
+    ap (refill (length bytes) bytes) put ∙ items-with_items (record { items = bytes }) (paste bytes len piece more) same in
+    ap (λ k. take k (refill (length bytes) bytes (put_mid at room lent part))) n
+    ∙ paste_kept limit len more bytes piece _ whole fits is after
